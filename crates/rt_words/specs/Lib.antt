@@ -1,0 +1,4 @@
+pub mod Word
+pub mod Built
+pub mod Named
+pub mod formers
