@@ -1,0 +1,13 @@
+// The instructions of the machine and their words.
+#![tactic(auto)]
+
+mod decoding;
+mod encoding;
+pub mod first;
+pub mod instruction;
+
+pub use decoding::decode;
+pub use encoding::encode;
+pub use instruction::{
+    Condition, DoubleOp, Instr, Operand, Pointer, Reg, RegisterOp, SingleOp, Size, SumOp, WordOp,
+};

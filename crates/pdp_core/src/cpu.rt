@@ -1,0 +1,64 @@
+// The registers, the memory behind them, and how an instruction ends.
+use pdp_code::Reg;
+
+/// The registers and the flags.
+#[derive(Clone, Copy)]
+pub struct Regs {
+    pub r: [u16; 8],
+    pub n: bool,
+    pub z: bool,
+    pub v: bool,
+    pub c: bool,
+}
+
+/// Why the memory refuses an access, with its address.
+#[derive(Clone, Copy)]
+pub enum Refused {
+    Odd(u16),
+    Access(u16),
+}
+
+/// The kinds of fault.
+#[derive(Clone, Copy)]
+pub enum Kind {
+    Odd,
+    Reserved,
+    Access,
+    BadJump,
+}
+
+/// Why an instruction has no effect: the kind, with the address of the access, or of the instruction where it is
+/// reserved or a bad jump.
+#[derive(Clone, Copy)]
+pub struct Failure {
+    pub kind: Kind,
+    pub at: u16,
+}
+
+/// How an instruction ended.
+#[derive(Clone, Copy)]
+pub enum Stop {
+    /// The next instruction may follow.
+    Went,
+    /// It asks for the monitor's service of that number.
+    Trap(u8),
+    /// Nothing has changed: the kind, and the address of the access or of the instruction.
+    Fault(Kind, u16),
+}
+
+/// A value that is shifted bit by bit, the last bit that went out, and whether its sign ever changed.
+#[derive(Clone, Copy)]
+pub struct Shift {
+    pub value: u32,
+    pub carry: bool,
+    pub turned: bool,
+}
+
+/// Where an operand is.
+#[derive(Clone, Copy)]
+pub enum Place {
+    InRegister(Reg),
+    InMemory(u16),
+    /// A word that stands in the code as an operand of the instruction: its address, and itself as it was fetched.
+    InCode(u16, u16),
+}

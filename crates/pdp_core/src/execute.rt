@@ -1,0 +1,435 @@
+// The instructions.
+ghost use Rattle.std.specs.Prelude.{◌≡◌, ◌+◌, ◌-◌, ◌*◌, ◌%◌, ◌<◌, ◌^◌, OnErr, ◌&&◌, nat_le, bit_or, false, if◌then◌else◌};
+ghost use Rattle.pdp_core.specs.Execute.{failure, limit, move as move_of, double, sum, single, single_read, single_end, on_word as on_word_of, on_register, is_odd_pair, left, holds, branch, loop, target, call, return_by, perform as perform_of, plan, ended, execute};
+
+use crate::cpu::{Failure, Kind, Place, Regs, Stop};
+use crate::memory::Bus;
+use crate::operand::{
+    find, get, index, load_at, next, set, store_at, store_word, value, word_at, write_word,
+};
+use crate::shift::{divide, get_pair, product, set_product, set_shifted, set_shifted_pair, shift};
+use crate::value::{
+    add, change, clear_bits, differ_of, extend, limit_of, mark, set_by_difference, set_by_sum,
+    set_by_value, set_flags, subtract,
+};
+use pdp_code::first::first;
+use pdp_code::{
+    Condition, DoubleOp, Instr, Operand, Reg, RegisterOp, SingleOp, Size, SumOp, WordOp,
+};
+use rt_words::{wrap_add, wrap_sub};
+
+fn move_to<B: Bus>(
+    bus: &mut B,
+    regs: &mut Regs,
+    size: Size,
+    x: u16,
+    d: Place,
+) -> Result<(), Failure>
+    requires { x < limit size }
+    ensures value { move_of (B.world bus.old) regs.old size x d ≡ left result regs.new (B.world bus.new) }
+    ensures err { OnErr result (B.world bus.new ≡ B.world bus.old) }
+{
+    match size {
+        Size::Word => store_word(bus, regs, d, x),
+        Size::Byte => match d {
+            Place::InRegister(r) => {
+                set(regs, r, extend(x as u8));
+                Ok(())
+            }
+            _ => store_at(bus, Size::Byte, regs, d, x),
+        },
+    }
+}
+
+fn two<B: Bus>(
+    bus: &mut B,
+    regs: &mut Regs,
+    op: DoubleOp,
+    size: Size,
+    x: u16,
+    d: Place,
+) -> Result<(), Failure>
+    requires { x < limit size }
+    ensures value { double (B.world bus.old) regs.old op size x d ≡ left result regs.new (B.world bus.new) }
+    ensures err { OnErr result (B.world bus.new ≡ B.world bus.old) }
+{
+    let c = regs.c;
+    match op {
+        DoubleOp::Mov => {
+            set_by_value(regs, size, x, false, c);
+            move_to(bus, regs, size, x, d)
+        }
+        DoubleOp::Cmp => {
+            let y = load_at(bus, size, regs, d)?;
+            set_by_difference(regs, size, x, y);
+            Ok(())
+        }
+        DoubleOp::Bit => {
+            let y = load_at(bus, size, regs, d)?;
+            set_by_value(regs, size, y & x, false, c);
+            Ok(())
+        }
+        DoubleOp::Bic => {
+            let y = load_at(bus, size, regs, d)?;
+            let z = clear_bits(y, x);
+            set_by_value(regs, size, z, false, c);
+            store_at(bus, size, regs, d, z)
+        }
+        DoubleOp::Bis => {
+            let y = load_at(bus, size, regs, d)?;
+            let z = join(size, y, x);
+            set_by_value(regs, size, z, false, c);
+            store_at(bus, size, regs, d, z)
+        }
+    }
+}
+
+/// The bits of both.
+fn join(size: Size, y: u16, x: u16) -> u16
+    requires a { y < limit size }
+    requires b { x < limit size }
+    ensures value { result ≡ bit_or y x }
+    ensures below { result < limit size }
+{
+    match size {
+        Size::Word => y | x,
+        Size::Byte => y | x,
+    }
+}
+
+fn total<B: Bus>(bus: &mut B, regs: &mut Regs, op: SumOp, x: u16, d: Place) -> Result<(), Failure>
+    ensures value { sum (B.world bus.old) regs.old op x d ≡ left result regs.new (B.world bus.new) }
+    ensures err { OnErr result (B.world bus.new ≡ B.world bus.old) }
+{
+    let y = load_at(bus, Size::Word, regs, d)?;
+    match op {
+        SumOp::Add => {
+            set_by_sum(regs, y, x);
+            store_word(bus, regs, d, add(Size::Word, y, x))
+        }
+        SumOp::Sub => {
+            set_by_difference(regs, Size::Word, y, x);
+            store_word(bus, regs, d, subtract(Size::Word, y, x))
+        }
+    }
+}
+
+fn finish_one<B: Bus>(
+    bus: &mut B,
+    regs: &mut Regs,
+    op: SingleOp,
+    size: Size,
+    x: u16,
+    d: Place,
+) -> Result<(), Failure>
+    requires { x < limit size }
+    ensures value { single_end (B.world bus.old) regs.old op size x d ≡ left result regs.new (B.world bus.new) }
+    ensures err { OnErr result (B.world bus.new ≡ B.world bus.old) }
+{
+    match op {
+        SingleOp::Tst => Ok(()),
+        _ => store_at(bus, size, regs, d, x),
+    }
+}
+
+fn read_one<B: Bus>(
+    bus: &mut B,
+    regs: &mut Regs,
+    op: SingleOp,
+    size: Size,
+    d: Place,
+) -> Result<(), Failure>
+    ensures value { single_read (B.world bus.old) regs.old op size d ≡ left result regs.new (B.world bus.new) }
+    ensures err { OnErr result (B.world bus.new ≡ B.world bus.old) }
+{
+    let y = load_at(bus, size, regs, d)?;
+    let x = change(regs, op, size, y);
+    finish_one(bus, regs, op, size, x, d)
+}
+
+fn clear<B: Bus>(bus: &mut B, regs: &mut Regs, size: Size, d: Place) -> Result<(), Failure>
+    ensures value { single (B.world bus.old) regs.old SingleOp.Clr size d ≡ left result regs.new (B.world bus.new) }
+    ensures err { OnErr result (B.world bus.new ≡ B.world bus.old) }
+{
+    let _least = limit_of(size);
+    set_flags(regs, false, true, false, false);
+    store_at(bus, size, regs, d, 0)
+}
+
+fn one<B: Bus>(
+    bus: &mut B,
+    regs: &mut Regs,
+    op: SingleOp,
+    size: Size,
+    d: Place,
+) -> Result<(), Failure>
+    ensures value { single (B.world bus.old) regs.old op size d ≡ left result regs.new (B.world bus.new) }
+    ensures err { OnErr result (B.world bus.new ≡ B.world bus.old) }
+{
+    match op {
+        SingleOp::Clr => clear(bus, regs, size, d),
+        _ => read_one(bus, regs, op, size, d),
+    }
+}
+
+fn on_word<B: Bus>(bus: &mut B, regs: &mut Regs, op: WordOp, d: Place) -> Result<(), Failure>
+    ensures value { on_word_of (B.world bus.old) regs.old op d ≡ left result regs.new (B.world bus.new) }
+    ensures err { OnErr result (B.world bus.new ≡ B.world bus.old) }
+{
+    match op {
+        WordOp::Swab => {
+            let y = load_at(bus, Size::Word, regs, d)?;
+            let x = y % 256 * 256 + y / 256;
+            set_by_value(regs, Size::Byte, x % 256, false, false);
+            store_word(bus, regs, d, x)
+        }
+        WordOp::Sxt => {
+            let n = regs.n;
+            let c = regs.c;
+            set_flags(regs, n, !n, false, c);
+            store_word(bus, regs, d, if n { 65535 } else { 0 })
+        }
+    }
+}
+
+fn has_odd_pair(op: RegisterOp, r: Reg) -> bool
+    ensures { result ≡ is_odd_pair op r }
+{
+    match op {
+        RegisterOp::Div => index(r) % 2 == 1,
+        RegisterOp::Ashc => index(r) % 2 == 1,
+        _ => false,
+    }
+}
+
+fn with_register<B: Bus>(
+    bus: &mut B,
+    regs: &mut Regs,
+    op: RegisterOp,
+    r: Reg,
+    before: u16,
+    s: Place,
+) -> Result<(), Failure>
+    requires { is_odd_pair op r ≡ false }
+    ensures value { on_register (B.world bus.old) regs.old before op r s ≡ left result regs.new (B.world bus.new) }
+    ensures err { OnErr result (B.world bus.new ≡ B.world bus.old) }
+{
+    let x = load_at(bus, Size::Word, regs, s)?;
+    match op {
+        RegisterOp::Mul => {
+            let y = product(get(regs, r), x);
+            set_product(regs, r, y);
+            Ok(())
+        }
+        RegisterOp::Div => {
+            divide(regs, r, x);
+            Ok(())
+        }
+        RegisterOp::Ash => {
+            let y = shift(65536, 32768, get(regs, r) as u32, x);
+            set_shifted(regs, r, y);
+            Ok(())
+        }
+        RegisterOp::Ashc => {
+            let y = shift(4294967296, 2147483648, get_pair(regs, r), x);
+            set_shifted_pair(regs, r, y);
+            Ok(())
+        }
+        RegisterOp::Xor => {
+            let y = x ^ before;
+            let c = regs.c;
+            set_by_value(regs, Size::Word, y, false, c);
+            store_word(bus, regs, s, y)
+        }
+    }
+}
+
+fn is_taken(regs: &Regs, c: Condition) -> bool
+    ensures { result ≡ holds regs.now c }
+{
+    match c {
+        Condition::Always => true,
+        Condition::NotEqual => !regs.z,
+        Condition::Equal => regs.z,
+        Condition::AtLeast => !differ_of(regs.n, regs.v),
+        Condition::Less => differ_of(regs.n, regs.v),
+        Condition::Greater => !regs.z && !differ_of(regs.n, regs.v),
+        Condition::AtMost => regs.z || differ_of(regs.n, regs.v),
+        Condition::Plus => !regs.n,
+        Condition::Minus => regs.n,
+        Condition::Higher => !regs.c && !regs.z,
+        Condition::LowerSame => regs.c || regs.z,
+        Condition::NoOverflow => !regs.v,
+        Condition::Overflow => regs.v,
+        Condition::NoCarry => !regs.c,
+        Condition::Carry => regs.c,
+    }
+}
+
+fn take_branch(regs: &mut Regs, c: Condition, n: u8)
+    ensures { regs.new ≡ branch regs.old (holds regs.old c) n }
+{
+    if is_taken(regs, c) {
+        let far = extend(n);
+        let to = wrap_add(get(regs, Reg::Pc), wrap_add(far, far));
+        set(regs, Reg::Pc, to);
+    }
+}
+
+fn count_down(regs: &mut Regs, r: Reg, n: u8)
+    ensures { regs.new ≡ loop regs.old r n }
+{
+    let x = wrap_sub(get(regs, r), 1);
+    set(regs, r, x);
+    if x != 0 {
+        let to = wrap_sub(get(regs, Reg::Pc), 2 * n as u16);
+        set(regs, Reg::Pc, to);
+    }
+}
+
+fn failed(kind: Kind, at: u16) -> Failure
+    ensures { result ≡ failure kind at }
+{
+    Failure { kind, at }
+}
+
+fn address_of(at: u16, place: Place) -> Result<u16, Failure>
+    ensures { result ≡ target at place }
+{
+    match place {
+        Place::InRegister(_) => Err(failed(Kind::BadJump, at)),
+        Place::InMemory(a) => Ok(a),
+        Place::InCode(a, _) => Ok(a),
+    }
+}
+
+fn enter<B: Bus>(bus: &mut B, regs: &mut Regs, r: Reg, a: u16) -> Result<(), Failure>
+    ensures value { call (B.world bus.old) regs.old r a ≡ left result regs.new (B.world bus.new) }
+    ensures err { OnErr result (B.world bus.new ≡ B.world bus.old) }
+{
+    let kept = get(regs, r);
+    let back = get(regs, Reg::Pc);
+    let s = wrap_sub(get(regs, Reg::Sp), 2);
+    set(regs, Reg::Sp, s);
+    set(regs, r, back);
+    set(regs, Reg::Pc, a);
+    write_word(bus, regs, s, kept)
+}
+
+fn leave<B: Bus>(bus: &mut B, regs: &mut Regs, r: Reg) -> Result<(), Failure>
+    ensures value { return_by (B.world bus.old) regs.old r ≡ left result regs.new (B.world bus.new) }
+    ensures err { OnErr result (B.world bus.new ≡ B.world bus.old) }
+{
+    let s = get(regs, Reg::Sp);
+    let x = word_at(bus, s)?;
+    let to = get(regs, r);
+    set(regs, Reg::Pc, to);
+    set(regs, Reg::Sp, wrap_add(s, 2));
+    set(regs, r, x);
+    Ok(())
+}
+
+fn ask(at: u16, n: u8) -> Result<Stop, Failure>
+    ensures { result ≡ (if nat_le 1 n && nat_le n 11 then Ok (Stop.Trap n) else Err (failure Kind.Reserved at)) }
+{
+    if 1 <= n && n <= 11 {
+        Ok(Stop::Trap(n))
+    } else {
+        Err(failed(Kind::Reserved, at))
+    }
+}
+
+/// The instruction at a place, the registers past its first word.
+fn perform<B: Bus>(bus: &mut B, regs: &mut Regs, at: u16, i: Instr) -> Result<Stop, Failure>
+    ensures value { perform_of at (B.world bus.old) regs.old i ≡ ended result regs.new (B.world bus.new) }
+    ensures err { OnErr result (B.world bus.new ≡ B.world bus.old) }
+{
+    match i {
+        Instr::Double(op, size, s, d) => {
+            let x = value(bus, size, regs, s)?;
+            let place = find(bus, size, regs, d)?;
+            two(bus, regs, op, size, x, place)?;
+            Ok(Stop::Went)
+        }
+        Instr::Sum(op, s, d) => {
+            let x = value(bus, Size::Word, regs, s)?;
+            let place = find(bus, Size::Word, regs, d)?;
+            total(bus, regs, op, x, place)?;
+            Ok(Stop::Went)
+        }
+        Instr::Single(op, size, d) => {
+            let place = find(bus, size, regs, d)?;
+            one(bus, regs, op, size, place)?;
+            Ok(Stop::Went)
+        }
+        Instr::OnWord(op, d) => {
+            let place = find(bus, Size::Word, regs, d)?;
+            on_word(bus, regs, op, place)?;
+            Ok(Stop::Went)
+        }
+        Instr::OnRegister(op, r, s) => {
+            if has_odd_pair(op, r) {
+                return Err(failed(Kind::Reserved, at));
+            }
+            let before = get(regs, r);
+            let place = find(bus, Size::Word, regs, s)?;
+            with_register(bus, regs, op, r, before, place)?;
+            Ok(Stop::Went)
+        }
+        Instr::Branch(c, n) => {
+            take_branch(regs, c, n);
+            Ok(Stop::Went)
+        }
+        Instr::Loop(r, n) => {
+            count_down(regs, r, n);
+            Ok(Stop::Went)
+        }
+        Instr::Jump(d) => {
+            let place = find(bus, Size::Word, regs, d)?;
+            let a = address_of(at, place)?;
+            set(regs, Reg::Pc, a);
+            Ok(Stop::Went)
+        }
+        Instr::Call(r, d) => {
+            let place = find(bus, Size::Word, regs, d)?;
+            let a = address_of(at, place)?;
+            enter(bus, regs, r, a)?;
+            Ok(Stop::Went)
+        }
+        Instr::Return(r) => {
+            leave(bus, regs, r)?;
+            Ok(Stop::Went)
+        }
+        Instr::Trap(n) => ask(at, n),
+        Instr::Flags(u, n, z, v, c) => {
+            mark(regs, u, n, z, v, c);
+            Ok(Stop::Went)
+        }
+    }
+}
+
+fn attempt<B: Bus>(bus: &mut B, regs: &mut Regs) -> Result<Stop, Failure>
+    ensures value { plan (B.world bus.old) regs.old ≡ ended result regs.new (B.world bus.new) }
+    ensures err { OnErr result (B.world bus.new ≡ B.world bus.old) }
+{
+    let at = get(regs, Reg::Pc);
+    let w = next(bus, regs)?;
+    match first(w) {
+        Some(i) => perform(bus, regs, at, i),
+        None => Err(failed(Kind::Reserved, at)),
+    }
+}
+
+/// One instruction.
+pub fn step<B: Bus>(regs: &mut Regs, bus: &mut B) -> Stop
+    ensures { execute (B.world bus.old) regs.old ≡ record { stop = result; regs = regs.new; world = B.world bus.new } }
+{
+    let mut after = *regs;
+    match attempt(bus, &mut after) {
+        Ok(stop) => {
+            *regs = after;
+            stop
+        }
+        Err(failure) => Stop::Fault(failure.kind, failure.at),
+    }
+}

@@ -1,0 +1,13 @@
+// One instruction of the machine, over any memory.
+#![tactic(auto)]
+
+pub mod cpu;
+mod execute;
+pub mod memory;
+mod operand;
+mod shift;
+mod value;
+
+pub use cpu::{Kind, Refused, Regs, Stop};
+pub use execute::step;
+pub use memory::Bus;

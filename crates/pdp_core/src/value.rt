@@ -1,0 +1,267 @@
+// Values and flags.
+ghost use Rattle.std.specs.Prelude.{◌≡◌, ◌+◌, ◌-◌, ◌*◌, ◌/◌, ◌%◌, ◌<◌, ◌≤◌, ◌^◌, bit_and, bit_or};
+ghost use Rattle.rt_words.specs.Word.{differ, extend_sign, with_low_byte};
+ghost use Rattle.pdp_core.specs.Execute.{limit, half, negative, plus, minus, by_value, by_difference, by_sum, flags, one_if, half_if, single_value, single_carry, single_overflow, single_flags, marked};
+
+use crate::cpu::Regs;
+use pdp_code::{SingleOp, Size};
+
+/// Whether two tests differ.
+pub fn differ_of(a: bool, b: bool) -> bool
+    ensures { result ≡ differ a b }
+{
+    if a { !b } else { b }
+}
+
+/// A byte as a word of the same sign.
+pub fn extend(b: u8) -> u16
+    ensures { result ≡ extend_sign b }
+{
+    if b < 128 { b as u16 } else { b as u16 + 65280 }
+}
+
+/// A word with another low byte.
+pub fn set_low_byte(w: u16, b: u8) -> u16
+    ensures { result ≡ with_low_byte w b }
+{
+    w / 256 * 256 + b as u16
+}
+
+/// How many values there are.
+pub fn limit_of(size: Size) -> u32
+    ensures value { result ≡ limit size }
+    ensures most { result ≤ 65536 }
+    ensures least { 256 ≤ result }
+{
+    match size {
+        Size::Word => 65536,
+        Size::Byte => 256,
+    }
+}
+
+/// Half of them.
+pub fn half_of(size: Size) -> u16
+    ensures value { result ≡ half size }
+    ensures most { result ≤ 32768 }
+    ensures least { 128 ≤ result }
+    ensures below { result + result ≡ limit size }
+{
+    match size {
+        Size::Word => 32768,
+        Size::Byte => 128,
+    }
+}
+
+/// Whether the top bit is set.
+pub fn is_negative(size: Size, x: u16) -> bool
+    ensures { result ≡ negative size x }
+{
+    half_of(size) <= x
+}
+
+/// A sum without its carry.
+pub fn add(size: Size, a: u16, b: u16) -> u16
+    ensures value { result ≡ plus size a b }
+    ensures below { result < limit size }
+{
+    ((a as u32 + b as u32) % limit_of(size)) as u16
+}
+
+/// A difference without its borrow.
+pub fn subtract(size: Size, a: u16, b: u16) -> u16
+    requires { b < limit size }
+    ensures value { result ≡ minus size a b }
+    ensures below { result < limit size }
+{
+    ((a as u32 + (limit_of(size) - b as u32)) % limit_of(size)) as u16
+}
+
+/// The bits of one that are not in the other.
+pub fn clear_bits(y: u16, x: u16) -> u16
+    ensures value { result ≡ y - bit_and y x }
+    ensures less { result ≤ y }
+{
+    y - (y & x)
+}
+
+/// Sets the four flags.
+pub fn set_flags(regs: &mut Regs, n: bool, z: bool, v: bool, c: bool)
+    ensures { regs.new ≡ flags regs.old n z v c }
+{
+    regs.n = n;
+    regs.z = z;
+    regs.v = v;
+    regs.c = c;
+}
+
+/// N and Z by a result.
+pub fn set_by_value(regs: &mut Regs, size: Size, x: u16, v: bool, c: bool)
+    ensures { regs.new ≡ by_value regs.old size x v c }
+{
+    set_flags(regs, is_negative(size, x), x == 0, v, c);
+}
+
+/// The flags of `a - b`.
+pub fn set_by_difference(regs: &mut Regs, size: Size, a: u16, b: u16)
+    requires { b < limit size }
+    ensures { regs.new ≡ by_difference regs.old size a b }
+{
+    let x = subtract(size, a, b);
+    let apart = differ_of(is_negative(size, a), is_negative(size, b));
+    let turned = differ_of(is_negative(size, x), is_negative(size, b));
+    set_by_value(regs, size, x, apart && !turned, a < b);
+}
+
+/// The flags of `a + b`.
+pub fn set_by_sum(regs: &mut Regs, a: u16, b: u16)
+    ensures { regs.new ≡ by_sum regs.old a b }
+{
+    let x = add(Size::Word, a, b);
+    let apart = differ_of(is_negative(Size::Word, a), is_negative(Size::Word, b));
+    let turned = differ_of(is_negative(Size::Word, x), is_negative(Size::Word, b));
+    set_by_value(
+        regs,
+        Size::Word,
+        x,
+        !apart && turned,
+        65536 <= a as u32 + b as u32,
+    );
+}
+
+/// Sets or clears flags.
+pub fn mark(regs: &mut Regs, u: bool, n: bool, z: bool, v: bool, c: bool)
+    ensures { regs.new ≡ marked regs.old u n z v c }
+{
+    let new_n = if n { u } else { regs.n };
+    let new_z = if z { u } else { regs.z };
+    let new_v = if v { u } else { regs.v };
+    let new_c = if c { u } else { regs.c };
+    set_flags(regs, new_n, new_z, new_v, new_c);
+}
+
+fn one_where(b: bool) -> u16
+    ensures value { result ≡ one_if b }
+    ensures few { result ≤ 1 }
+{
+    if b { 1 } else { 0 }
+}
+
+fn half_where(size: Size, b: bool) -> u16
+    ensures value { result ≡ half_if size b }
+    ensures most { result + result ≤ limit size }
+{
+    if b { half_of(size) } else { 0 }
+}
+
+fn right(size: Size, y: u16, top: bool) -> u16
+    requires { y < limit size }
+    ensures value { result ≡ y / 2 + half_if size top }
+    ensures below { result < limit size }
+{
+    let _most = half_of(size);
+    y / 2 + half_where(size, top)
+}
+
+fn left(size: Size, y: u16, low: bool) -> u16
+    ensures value { result ≡ (2 * y + one_if low) % limit size }
+    ensures below { result < limit size }
+{
+    ((2 * y as u32 + one_where(low) as u32) % limit_of(size)) as u16
+}
+
+fn twice(size: Size, y: u16) -> u16
+    ensures value { result ≡ (2 * y) % limit size }
+    ensures below { result < limit size }
+{
+    ((2 * y as u32) % limit_of(size)) as u16
+}
+
+fn complement(size: Size, y: u16) -> u16
+    requires { y < limit size }
+    ensures value { result ≡ limit size - 1 - y }
+    ensures below { result < limit size }
+{
+    (limit_of(size) - 1 - y as u32) as u16
+}
+
+/// What an operation makes of `y`, with C before it.
+pub fn changed(op: SingleOp, size: Size, c: bool, y: u16) -> u16
+    requires { y < limit size }
+    ensures value { result ≡ single_value op size c y }
+    ensures below { result < limit size }
+{
+    let _least = limit_of(size);
+    match op {
+        SingleOp::Clr => 0,
+        SingleOp::Com => complement(size, y),
+        SingleOp::Inc => add(size, y, 1),
+        SingleOp::Dec => subtract(size, y, 1),
+        SingleOp::Neg => subtract(size, 0, y),
+        SingleOp::Adc => add(size, y, one_where(c)),
+        SingleOp::Sbc => subtract(size, y, one_where(c)),
+        SingleOp::Tst => y,
+        SingleOp::Ror => right(size, y, c),
+        SingleOp::Rol => left(size, y, c),
+        SingleOp::Asr => right(size, y, is_negative(size, y)),
+        SingleOp::Asl => twice(size, y),
+    }
+}
+
+/// C after it.
+pub fn carry_of(op: SingleOp, size: Size, c: bool, y: u16, x: u16) -> bool
+    ensures { result ≡ single_carry op size c y x }
+{
+    match op {
+        SingleOp::Clr => false,
+        SingleOp::Com => true,
+        SingleOp::Inc => c,
+        SingleOp::Dec => c,
+        SingleOp::Neg => x != 0,
+        SingleOp::Adc => y as u32 == limit_of(size) - 1 && c,
+        SingleOp::Sbc => y == 0 && c,
+        SingleOp::Tst => false,
+        SingleOp::Ror => y % 2 == 1,
+        SingleOp::Rol => is_negative(size, y),
+        SingleOp::Asr => y % 2 == 1,
+        SingleOp::Asl => is_negative(size, y),
+    }
+}
+
+/// V after it.
+pub fn overflow_of(op: SingleOp, size: Size, c: bool, y: u16, x: u16) -> bool
+    ensures { result ≡ single_overflow op size c y x }
+{
+    match op {
+        SingleOp::Clr => false,
+        SingleOp::Com => false,
+        SingleOp::Inc => y == half_of(size) - 1,
+        SingleOp::Dec => y == half_of(size),
+        SingleOp::Neg => x == half_of(size),
+        SingleOp::Adc => y == half_of(size) - 1 && c,
+        SingleOp::Sbc => y == half_of(size) && c,
+        SingleOp::Tst => false,
+        SingleOp::Ror => differ_of(is_negative(size, x), y % 2 == 1),
+        SingleOp::Rol => differ_of(is_negative(size, x), is_negative(size, y)),
+        SingleOp::Asr => differ_of(is_negative(size, x), y % 2 == 1),
+        SingleOp::Asl => differ_of(is_negative(size, x), is_negative(size, y)),
+    }
+}
+
+/// Sets the flags of an operation on `y`, and gives what it makes of it.
+pub fn change(regs: &mut Regs, op: SingleOp, size: Size, y: u16) -> u16
+    requires { y < limit size }
+    ensures value { result ≡ single_value op size regs.old.c y }
+    ensures below { result < limit size }
+    ensures flags { regs.new ≡ single_flags regs.old op size y }
+{
+    let c = regs.c;
+    let x = changed(op, size, c, y);
+    set_by_value(
+        regs,
+        size,
+        x,
+        overflow_of(op, size, c, y, x),
+        carry_of(op, size, c, y, x),
+    );
+    x
+}
