@@ -2,7 +2,7 @@
 use pdp_code::Reg;
 
 /// The registers and the flags.
-#[derive(Clone, Copy)]
+#[derive(Debug, Clone, Copy, PartialEq, Eq)]
 pub struct Regs {
     pub r: [u16; 8],
     pub n: bool,
@@ -12,14 +12,14 @@ pub struct Regs {
 }
 
 /// Why the memory refuses an access, with its address.
-#[derive(Clone, Copy)]
+#[derive(Debug, Clone, Copy, PartialEq, Eq)]
 pub enum Refused {
     Odd(u16),
     Access(u16),
 }
 
 /// The kinds of fault.
-#[derive(Clone, Copy)]
+#[derive(Debug, Clone, Copy, PartialEq, Eq)]
 pub enum Kind {
     Odd,
     Reserved,
@@ -36,7 +36,7 @@ pub struct Failure {
 }
 
 /// How an instruction ended.
-#[derive(Clone, Copy)]
+#[derive(Debug, Clone, Copy, PartialEq, Eq)]
 pub enum Stop {
     /// The next instruction may follow.
     Went,

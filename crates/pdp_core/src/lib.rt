@@ -10,4 +10,4 @@ mod value;
 
 pub use cpu::{Kind, Refused, Regs, Stop};
 pub use execute::step;
-pub use memory::Bus;
+pub use memory::{Bus, MEMORY_END, Protection};
