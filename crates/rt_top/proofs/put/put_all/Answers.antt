@@ -1,0 +1,13 @@
+use Rattle.std.proofs.Common.{arith, sym, take, drop, length-drop, length, ap}
+use Rattle.std.proofs.lemmas.List.{take-append-drop}
+use Rattle.rt_top.proofs.Runs.{appends_keeps}
+use Rattle.rt_top.proofs.put.put_all.Goals as goal
+
+pub returns-in-Err-clause-err : goal.returns-in-Err-clause-err
+returns-in-Err-clause-err g c = record {
+  start = take c.loop-byte.byte-index c.args.bytes.now;
+  rest = drop c.loop-byte.byte-index c.args.bytes.now;
+  parts = sym (take-append-drop c.loop-byte.byte-index c.args.bytes.now);
+  proper = λ e. let n = length-drop c.loop-byte.byte-index c.args.bytes.now in let z = ap length e in omega (arith, n, z, c.loop-byte-test.true);
+  appended = appends_keeps (g.O.Sink.written c.args.output.now) (g.O.Sink.written c.loop-byte.output) (g.O.Sink.written c.put.new.self) (take c.loop-byte.byte-index c.args.bytes.now) c.loop-byte.invariant.0 c.in-Err.ensures.err;
+}
