@@ -50,3 +50,7 @@ pub record IsFirstModule (bytes : List ℕ) (s : FirstSystem) (m : FirstModule) 
   pub root_free : m.root ≢ codes "RROUT"
   pub task_stack : m.stack ≡ s.stack
   pub task_root : m.root ≡ s.root
+
+-- a text has one module at most
+abbrev pub HasOneModule : Type 0
+HasOneModule = (bytes : List ℕ) (s : FirstSystem) (m n : FirstModule) → IsFirstModule bytes s m → IsFirstModule bytes s n → m ≡ n

@@ -22,3 +22,7 @@ pub record IsFirstSystem (bytes : List ℕ) (s : FirstSystem) : Type 0 where
   pub stack : IsPlainName s.stack
   pub least : 1 ≤ s.priority
   pub most : s.priority ≤ 255
+
+-- a text has one system at most
+abbrev pub HasOneSystem : Type 0
+HasOneSystem = (bytes : List ℕ) (s t : FirstSystem) → IsFirstSystem bytes s → IsFirstSystem bytes t → s ≡ t

@@ -5,7 +5,9 @@
 #![tactic(auto)]
 
 mod module;
+mod names;
+mod pieces;
 mod system;
 
-pub use module::FirstModule;
-pub use system::FirstSystem;
+pub use module::{FirstModule, one_module, read_first_module};
+pub use system::{FirstSystem, one_system, read_first_system};
