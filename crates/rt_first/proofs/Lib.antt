@@ -1,0 +1,5 @@
+pub mod Runs
+pub mod Reading
+pub mod PieceReads
+pub mod NameReads
+pub mod ModuleReads

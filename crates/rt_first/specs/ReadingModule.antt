@@ -108,9 +108,9 @@ with_heading h (Some ns) = Some (h, ns)
 with_heading h None = None
 
 abbrev pub suited : List ℕ → List ℕ → Option (Heading × List ℕ) → Option (Heading × List ℕ)
-suited stack root (Some x) = if suits x.0 stack root then with_heading x.0 (body_of x.1) else None
-suited stack root None = None
+suited st ro (Some x) = if suits x.0 st ro then with_heading x.0 (body_of x.1) else None
+suited st ro None = None
 
 -- the whole text of a module whose task has this stack and root
 unfoldable pub parts_of : List ℕ → List ℕ → List ℕ → Option (Heading × List ℕ)
-parts_of stack root l = suited stack root (heading l)
+parts_of st ro l = suited st ro (heading l)

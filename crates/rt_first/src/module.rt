@@ -43,6 +43,13 @@ struct Heading<'a> {
     root: &'a [u8],
 }
 
+/// The heading, and the bytes that the statements put.
+#[derive(Drop)]
+struct Parts<'a> {
+    heading: Heading<'a>,
+    puts: Bytes,
+}
+
 /// `TITLE name ;`
 #[tactic(auto, unfolding(crate::specs::ReadingModule::title))]
 fn title(bytes: &[u8]) -> Option<(&[u8], &[u8])>
@@ -184,14 +191,14 @@ impl Heading<'_> {
     }
 }
 
-/// The heading of a whole text, and the bytes that its statements put.
+/// The parts of a whole text, whose stack and procedure are those of the system's task.
 #[tactic(auto, unfolding(crate::specs::ReadingModule::parts_of))]
-fn parts<'a>(
+fn read_parts<'a>(
     alloc: Global,
     bytes: &'a [u8],
     system: &FirstSystem,
-) -> Result<Option<(Heading<'a>, Bytes)>, Memory>
-    ensures { IfOk result (λ o. Gives (λ x. ((x.0.title.now, ((x.0.stack.now, x.0.words), x.0.root.now)), x.1)) o (spec.parts_of system.now.stack system.now.root bytes.now)) }
+) -> Result<Option<Parts<'a>>, Memory>
+    ensures { IfOk result (λ o. Gives (λ p. ((p.heading.title.now, ((p.heading.stack.now, p.heading.words), p.heading.root.now)), p.puts)) o (spec.parts_of system.now.stack system.now.root bytes.now)) }
 {
     let Some((heading, rest)) = read_heading(bytes) else {
         return Ok(None);
@@ -200,7 +207,7 @@ fn parts<'a>(
         return Ok(None);
     }
     match body(alloc, rest)? {
-        Some(puts) => Ok(Some((heading, puts))),
+        Some(puts) => Ok(Some(Parts { heading, puts })),
         None => Ok(None),
     }
 }
@@ -223,9 +230,10 @@ pub fn read_first_module(
     // Nothing is answered only where no module has this text.
     ensures none { IfOk result (λ o. IfNone o ((m : FirstModule) → IsFirstModule bytes.now system.now m → ⊥)) }
 {
-    let Some((heading, puts)) = parts(alloc, bytes, system)? else {
+    let Some(parts) = read_parts(alloc, bytes, system)? else {
         return Ok(None);
     };
+    let Parts { heading, puts } = parts;
     Ok(Some(FirstModule {
         title: named(alloc, heading.title)?,
         stack: named(alloc, heading.stack)?,
