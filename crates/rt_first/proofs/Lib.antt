@@ -3,3 +3,4 @@ pub mod Reading
 pub mod PieceReads
 pub mod NameReads
 pub mod ModuleReads
+pub mod SystemReads

@@ -143,7 +143,7 @@ statements_sound (suc k) l rest ns e =
 -- where a word follows, the statements are found
 word_no_mark : (w : List ℕ) → is_run w ≡ true → (l : List ℕ) (tail : List Piece) → Spells l (Letters w ∷ tail) → mark 59 l ≡ None
 word_no_mark w h l tail s =
-    let u = reads_letters.complete l w tail (run_means w h) s in
+    let u = reads_letters.complete l w tail (run_means w h) tt s in
     letters_no_mark 59 refl l (w, u.0) u.1
 
 statements_complete : (k : ℕ) (l ns : List ℕ) (w : List ℕ) (tail : List Piece) → is_run w ≡ true → IsPuts k ns → Spells l (text.statements ns ++ Letters w ∷ tail) → (rest : List ℕ) × (statements k l ≡ Some (ns, rest)) × Spells rest (Letters w ∷ tail)
@@ -151,12 +151,12 @@ unfolding statements
 statements_complete k l [] w tail run h s = absurd (h.some refl)
 statements_complete zero l (n ∷ ns) w tail run h s = let few = h.few in absurd (omega arith)
 statements_complete (suc k) l (n ∷ []) w tail run h s =
-    let u = reads_statement.complete l n (Letters w ∷ tail) h.small.0 s in
+    let u = reads_statement.complete l n (Letters w ∷ tail) h.small.0 tt s in
     let none = word_no_mark w run u.0 tail u.2 in
     (u.0, rw (u.1, none) refl, u.2)
 statements_complete (suc k) l (n ∷ m ∷ ns) w tail run h s =
-    let u = reads_statement.complete l n (semicolon ∷ (text.statements (m ∷ ns) ++ Letters w ∷ tail)) h.small.0 s in
-    let v = a_semicolon.complete u.0 tt (text.statements (m ∷ ns) ++ Letters w ∷ tail) tt u.2 in
+    let u = reads_statement.complete l n (semicolon ∷ (text.statements (m ∷ ns) ++ Letters w ∷ tail)) h.small.0 tt s in
+    let v = a_semicolon.complete u.0 tt (text.statements (m ∷ ns) ++ Letters w ∷ tail) tt tt u.2 in
     let few = h.few in
     let o = statements_complete k v.0 (m ∷ ns) w tail run (record { some = cons_some m ns; few = omega arith; small = h.small.1 }) v.2 in
     (o.0, rw (u.1, v.1, o.1) refl, o.2)
@@ -197,7 +197,7 @@ body_complete : (l ns : List ℕ) → IsPuts 255 ns → Spells l (text.statement
 unfolding body_of
 body_complete l ns h s =
     let u = statements_complete 255 l ns (codes "ENDPROC") (semicolon ∷ []) refl h s in
-    let v = reads_closing.complete u.0 tt [] tt u.2 in
+    let v = reads_closing.complete u.0 tt [] tt tt u.2 in
     let last = spells_layout v.0 v.2 in
     rw (u.1, v.1, last) refl
 
@@ -326,7 +326,7 @@ parts_sound l s h ns e =
 pub parts_complete : (l : List ℕ) (s : FirstSystem) (m : FirstModule) → IsFirstModule l s m → parts_of s.stack s.root l ≡ Some (heading_of m, m.puts)
 unfolding parts_of
 parts_complete l s m is =
-    let u = reads_heading.complete l (heading_of m) (text.statements m.puts ++ closed) (is.title, ((is.stack, is.most), is.root)) is.spelled in
+    let u = reads_heading.complete l (heading_of m) (text.statements m.puts ++ closed) (is.title, ((is.stack, is.most), is.root)) tt is.spelled in
     let v = body_complete u.0 m.puts (record { some = is.some; few = few_puts_of m is.some is.few; small = is.small }) u.2 in
     let t = suits_is (heading_of m) s.stack s.root (record { least = is.least; apart = is.apart; stack_free = is.stack_free; root_free = is.root_free; task_stack = is.task_stack; task_root = is.task_root }) in
     ap (suited s.stack s.root) u.1 ∙ ap (λ (b : Bool). cond b (with_heading (heading_of m) (body_of u.0)) None) t ∙ ap (with_heading (heading_of m)) v

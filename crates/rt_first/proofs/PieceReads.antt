@@ -156,7 +156,7 @@ reads_letters = record {
   sound = λ l rest t e.
       let g = letters_at_sound (after_layout l) t rest e in
       (g.is, λ tail s. at_gap l (after_layout l) t rest (Letters t) tail refl g.parts (refl, g.is) (not_begins is_letter_or_digit IsLetterOrDigit both_is rest g.ends) s);
-  complete = λ l t tail c s. letters_complete l t tail s;
+  complete = λ l t tail c _ s. letters_complete l t tail s;
 }
 
 word_passes : (w t r rest : List ℕ) → cond {A = Option (Unit {0} × List ℕ)} (bytes_eq t w) (Some (tt, r)) None ≡ Some (tt, rest) → (t ≡ w) × (r ≡ rest)
@@ -172,8 +172,8 @@ reads_word w run = record {
       let h = word_passes w f.value f.middle rest f.second in
       let u = reads_letters.sound l rest w (f.first ∙ ap (λ (t : List ℕ). Some (t, f.middle)) h.0 ∙ ap (λ (t : List ℕ). Some (w, t)) h.1) in
       (tt, u.1);
-  complete = λ l a tail c s.
-      let u = reads_letters.complete l w tail run s in
+  complete = λ l a tail c _ s.
+      let u = reads_letters.complete l w tail run tt s in
       (u.0, rw (u.1, (bytes_eq-Decides w w).1 refl) refl, u.2);
 }
 
@@ -200,7 +200,7 @@ reads_mark m far = record {
   sound = λ l rest a e.
       let g = mark_at_sound m (after_layout l) rest a e in
       (tt, λ tail s. at_gap l (after_layout l) (m ∷ []) rest (Mark m) tail refl g refl tt s);
-  complete = λ l a tail c s. mark_complete m far l tail s;
+  complete = λ l a tail c _ s. mark_complete m far l tail s;
 }
 
 -- a name is no mark
@@ -218,7 +218,7 @@ letters_no_mark m far l x e = go (after_layout l) e
 
 -- ---- numbers
 
-value_is : (n : ℕ) (l : List ℕ) → fold (λ k c. 10 * k + (c - 48)) n l ≡ value_after n l
+pub value_is : (n : ℕ) (l : List ℕ) → fold (λ k c. 10 * k + (c - 48)) n l ≡ value_after n l
 value_is n [] = refl
 value_is n (c ∷ cs) = value_is (10 * n + (c - 48)) cs
 
@@ -350,7 +350,7 @@ reads_number most top = record {
       let le : n ≤ most = subst (λ (k : ℕ). k ≤ most) same (le_means f.value most h.0) in
       let g = number_at_sound most n top le (after_layout l) rest (quoted_at (after_layout l)) refl (f.first ∙ ap (λ (x : ℕ × List ℕ). Some x) h.1) in
       (le, λ tail s. at_gap l (after_layout l) g.written rest (Number n) tail refl g.parts g.is g.longest s);
-  complete = λ l n tail le s.
+  complete = λ l n tail le _ s.
       let u = number_complete most n top le l tail s in
       let passed = le_is n most le in
       (u.0, rw (u.1, passed) refl, u.2);
