@@ -1,2 +1,6 @@
+pub mod Calls
 pub mod Files
+pub mod Held
+pub mod Places
+pub mod States
 pub mod Streams

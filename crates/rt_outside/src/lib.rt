@@ -1,11 +1,25 @@
 //! The outside: the store of files, the console's input and its output, as traits that say what they
 //! hold where they tell it, and count their faults.
+//!
+//! [`MemStore`], [`MemSource`], [`MemSink`] and [`SureSource`] are their forms in memory, for tests and for
+//! texts that the program makes itself. All four tell what they hold.
 #![tactic(auto)]
 
+mod calls;
+mod lookup;
+mod mem_sink;
+mod mem_source;
+mod mem_store;
+mod shelf;
 mod sink;
 mod source;
 mod store;
+mod sure_source;
 
+pub use mem_sink::MemSink;
+pub use mem_source::MemSource;
+pub use mem_store::MemStore;
 pub use sink::{Failed, Sink};
 pub use source::{Next, Source};
 pub use store::{LONGEST_FILE, Store, StoreError};
+pub use sure_source::SureSource;
