@@ -15,6 +15,8 @@ mod sink;
 mod source;
 mod store;
 mod sure_source;
+#[cfg(test)]
+mod tests;
 
 pub use mem_sink::MemSink;
 pub use mem_source::MemSource;
