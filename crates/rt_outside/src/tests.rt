@@ -6,30 +6,72 @@ use rt_words::{Bytes, List, Memory, Name};
 use std::alloc::Global;
 use std::test::Fail;
 
-fn files(alloc: Global, entries: &[(&str, &[u8])]) -> Result<List<(Name, Bytes)>, Memory> {
-    let mut list = List::new(alloc, entries.len())?;
-    for (name, bytes) in entries {
-        if let Some(name) = Name::new(alloc, name.as_bytes())? {
-            list.push((name, Bytes::from_slice(alloc, bytes)?))?;
+#[derive(Clone, Copy, Drop)]
+enum Call<'a> {
+    Read(&'a str),
+    Write(&'a str, &'a [u8]),
+}
+
+use Call::{Read, Write};
+
+// What a call answers; a write that succeeds answers no bytes.
+fn made<S: Store>(store: &mut S, alloc: Global, call: Call<'_>) -> Result<Vec<u8>, StoreError> {
+    match call {
+        Read(name) => store.read(alloc, name),
+        Write(name, bytes) => match store.write(name, bytes) {
+            Ok(()) => Ok(Vec::new(alloc)),
+            Err(Failed) => Err(StoreError::Failed),
+        },
+    }
+}
+
+// Whether each call in turn answers what stands beside it.
+fn answers<S: Store>(
+    store: &mut S,
+    alloc: Global,
+    calls: &[(Call<'_>, Result<&[u8], StoreError>)],
+) -> bool {
+    for (call, answer) in calls {
+        let same = match (made(store, alloc, *call), answer) {
+            (Ok(bytes), Ok(wanted)) => bytes.as_slice() == *wanted,
+            (Err(why), Err(wanted)) => why == *wanted,
+            _ => false,
+        };
+        if !same {
+            return false;
         }
     }
-    Ok(list)
+    true
 }
 
-fn read<S: Store>(store: &mut S, alloc: Global, name: &str) -> Result<Vec<u8>, StoreError> {
-    store.read(alloc, name)
+fn gives<S: Source>(source: &mut S, answers: &[Next]) -> bool {
+    for answer in answers {
+        if source.next() != *answer {
+            return false;
+        }
+    }
+    true
 }
 
-fn write<S: Store>(store: &mut S, name: &str, bytes: &[u8]) -> Result<(), Failed> {
-    store.write(name, bytes)
+fn takes<S: Sink>(sink: &mut S, answers: &[(u8, bool)]) -> bool {
+    for (byte, taken) in answers {
+        if sink.put(*byte).is_ok() != *taken {
+            return false;
+        }
+    }
+    true
 }
 
-fn next<S: Source>(source: &mut S) -> Next {
-    source.next()
-}
-
-fn put<S: Sink>(sink: &mut S, byte: u8) -> Result<(), Failed> {
-    sink.put(byte)
+fn add(
+    alloc: Global,
+    files: &mut List<(Name, Bytes)>,
+    name: &str,
+    bytes: Bytes,
+) -> Result<(), Memory> {
+    match Name::new(alloc, name.as_bytes())? {
+        Some(name) => files.push((name, bytes)),
+        None => Ok(()),
+    }
 }
 
 #[test]
@@ -37,42 +79,36 @@ fn a_store_gives_the_first_file_of_a_name_or_the_one_last_written(
     rt: HostRuntime,
 ) -> Result<(), Fail> {
     let alloc = rt.alloc();
-    let given = files(alloc, &[("A", b"one"), ("B", b""), ("A", b"two")])?;
-    let mut store = MemStore::new(alloc, given, 200, List::new(alloc, 0)?)?;
+    let mut files = List::new(alloc, 3)?;
+    add(alloc, &mut files, "A", Bytes::from_slice(alloc, b"one")?)?;
+    add(alloc, &mut files, "B", Bytes::new(alloc, 0)?)?;
+    add(alloc, &mut files, "A", Bytes::from_slice(alloc, b"two")?)?;
+    let mut store = MemStore::new(alloc, files, 200, List::new(alloc, 0)?)?;
     let long = "A.NAME.OF.MORE.THAN.THIRTY-TWO.BYTES";
-    let written: [(&str, &[u8]); 7] = [
-        (long, b"long"),
-        ("", b"unnamed"),
-        ("A", b"three"),
-        (long, b"longer"),
-        ("", b""),
-        ("", b""),
-        ("C", b"c"),
+    let calls: [(Call<'_>, Result<&[u8], StoreError>); 19] = [
+        (Read("A"), Ok(b"one")),
+        (Read("B"), Ok(b"")),
+        (Read(""), Err(StoreError::Missing)),
+        (Read(long), Err(StoreError::Missing)),
+        (Write(long, b"long"), Ok(b"")),
+        (Write("", b"unnamed"), Ok(b"")),
+        (Read(""), Ok(b"unnamed")),
+        (Write("A", b"three"), Ok(b"")),
+        (Read(long), Ok(b"long")),
+        (Write(long, b"longer"), Ok(b"")),
+        (Write("", b""), Ok(b"")),
+        (Write("", b""), Ok(b"")),
+        (Write("C", b"c"), Ok(b"")),
+        (Read("A"), Ok(b"three")),
+        (Read("B"), Ok(b"")),
+        (Read("C"), Ok(b"c")),
+        (Read(""), Ok(b"")),
+        (Read(long), Ok(b"longer")),
+        (Read("D"), Err(StoreError::Missing)),
     ];
-    for (name, bytes) in written {
-        assert_eq!(rt; write(&mut store, name, bytes), Ok(()), "{name}");
-        assert_eq!(rt; read(&mut store, alloc, name)?.as_slice(), bytes, "{name}");
-    }
-    let kept: [(&str, &[u8]); 5] = [
-        ("A", b"three"),
-        ("B", b""),
-        (long, b"longer"),
-        ("", b""),
-        ("C", b"c"),
-    ];
-    for (name, bytes) in kept {
-        assert_eq!(rt; read(&mut store, alloc, name)?.as_slice(), bytes, "{name}");
-        assert_eq!(rt; store.file(name).ok_or("no file")?, bytes, "{name}");
-    }
-    assert_eq!(rt;
-        read(&mut store, alloc, "D").err(),
-        Some(StoreError::Missing)
-    );
-    assert!(rt; store.file("D").is_none());
-    assert_eq!(rt;
-        (store.room(), store.calls(), store.faults()),
-        (200 - 97, 20, 0)
-    );
+    assert!(rt; answers(&mut store, alloc, &calls));
+    assert!(rt; store.file(long) == Some(b"longer"));
+    assert!(rt; store.room() == 200 - 97 && store.calls() == 19 && store.faults() == 0);
     Ok(())
 }
 
@@ -81,105 +117,63 @@ fn a_store_fails_by_the_number_of_the_call_and_where_the_room_is_too_small(
     rt: HostRuntime,
 ) -> Result<(), Fail> {
     let alloc = rt.alloc();
-    let long = Bytes::from_vec(vec![in alloc; 0; LONGEST_FILE + 1]?);
-    let mut given = files(alloc, &[("A", b"one")])?;
-    if let Some(name) = Name::new(alloc, b"LONG")? {
-        given.push((name, long))?;
+    let mut files = List::new(alloc, 3)?;
+    add(alloc, &mut files, "A", Bytes::from_slice(alloc, b"one")?)?;
+    for (name, len) in [("L", LONGEST_FILE + 1), ("K", LONGEST_FILE)] {
+        add(
+            alloc,
+            &mut files,
+            name,
+            Bytes::from_vec(vec![in alloc; 7; len]?),
+        )?;
     }
     let fails = List::from_slice(alloc, &[9, 3, 0, 4, 5, 3])?;
-    let mut store = MemStore::new(alloc, given, 10, fails)?;
-    assert_eq!(rt; write(&mut store, "B", b"1234"), Ok(()));
-    assert_eq!(rt;
-        read(&mut store, alloc, "LONG").err(),
-        Some(StoreError::TooLong)
-    );
-    assert_eq!(rt; (store.room(), store.calls(), store.faults()), (5, 2, 0));
-    assert_eq!(rt;
-        read(&mut store, alloc, "LONG").err(),
-        Some(StoreError::Failed)
-    );
-    assert_eq!(rt;
-        read(&mut store, alloc, "NONE").err(),
-        Some(StoreError::Failed)
-    );
-    assert_eq!(rt; write(&mut store, "A", b"two"), Err(Failed));
-    assert_eq!(rt; (store.room(), store.calls(), store.faults()), (5, 5, 3));
-    assert_eq!(rt; write(&mut store, "A", b"12345"), Err(Failed));
-    assert_eq!(rt; read(&mut store, alloc, "A")?.as_slice(), b"one".as_slice());
-    assert_eq!(rt; write(&mut store, "A", b"1234"), Ok(()));
-    assert_eq!(rt;
-        read(&mut store, alloc, "A").err(),
-        Some(StoreError::Failed)
-    );
-    assert_eq!(rt;
-        read(&mut store, alloc, "A")?.as_slice(),
-        b"1234".as_slice()
-    );
-    assert_eq!(rt; write(&mut store, "", b"1"), Err(Failed));
-    assert_eq!(rt; write(&mut store, "", b""), Ok(()));
-    assert_eq!(rt; (store.room(), store.calls(), store.faults()), (0, 12, 6));
-    Ok(())
-}
-
-#[test]
-fn a_file_is_read_up_to_the_longest(rt: HostRuntime) -> Result<(), Fail> {
-    let alloc = rt.alloc();
-    for (len, error) in [
-        (0, None),
-        (4_194_304, None),
-        (4_194_305, Some(StoreError::TooLong)),
-    ] {
-        let mut given = List::new(alloc, 1)?;
-        if let Some(name) = Name::new(alloc, b"F")? {
-            given.push((name, Bytes::from_vec(vec![in alloc; 7; len]?)))?;
-        }
-        let mut store = MemStore::new(alloc, given, 0, List::new(alloc, 0)?)?;
-        match read(&mut store, alloc, "F") {
-            Ok(bytes) => assert_eq!(rt; (bytes.len(), None), (len, error)),
-            Err(why) => assert_eq!(rt; Some(why), error, "{len}"),
-        }
-    }
-    Ok(())
-}
-
-#[test]
-fn a_source_gives_its_bytes_and_then_the_end(rt: HostRuntime) -> Result<(), Fail> {
-    let alloc = rt.alloc();
-    let fails = List::from_slice(alloc, &[6, 2, 2])?;
-    let mut source = MemSource::new(alloc, Bytes::from_slice(alloc, b"AB")?, fails)?;
-    let answers = [
-        (Next::Byte(b'A'), 1, 0),
-        (Next::Failed, 1, 1),
-        (Next::Byte(b'B'), 0, 1),
-        (Next::End, 0, 1),
-        (Next::End, 0, 1),
-        (Next::Failed, 0, 2),
-        (Next::End, 0, 2),
+    let mut store = MemStore::new(alloc, files, 10, fails)?;
+    let calls: [(Call<'_>, Result<&[u8], StoreError>); 13] = [
+        (Write("B", b"1234"), Ok(b"")),
+        (Read("L"), Err(StoreError::TooLong)),
+        (Read("L"), Err(StoreError::Failed)),
+        (Read("NONE"), Err(StoreError::Failed)),
+        (Write("A", b"two"), Err(StoreError::Failed)),
+        (Write("A", b"12345"), Err(StoreError::Failed)),
+        (Read("A"), Ok(b"one")),
+        (Write("A", b"1234"), Ok(b"")),
+        (Read("A"), Err(StoreError::Failed)),
+        (Read("A"), Ok(b"1234")),
+        (Write("", b"1"), Err(StoreError::Failed)),
+        (Write("", b""), Ok(b"")),
+        (Read(""), Ok(b"")),
     ];
-    for (answer, left, faults) in answers {
-        assert_eq!(rt; next(&mut source), answer);
-        assert_eq!(rt; (source.left().len(), source.faults()), (left, faults));
-    }
-    assert_eq!(rt; source.calls(), 7);
-    let mut sure = SureSource::new(alloc, Bytes::from_slice(alloc, b"Z")?)?;
-    assert_eq!(rt; sure.left(), b"Z".as_slice());
-    for answer in [Next::Byte(b'Z'), Next::End, Next::End] {
-        assert_eq!(rt; next(&mut sure), answer);
-    }
+    assert!(rt; answers(&mut store, alloc, &calls));
+    assert!(rt; store.room() == 0 && store.calls() == 13 && store.faults() == 6);
+    let longest = store.read(alloc, "K").ok().ok_or("not read")?;
+    assert!(rt; longest.len() == 4_194_304);
     Ok(())
 }
 
 #[test]
-fn a_sink_fails_by_the_number_of_the_put_and_where_no_room_is_left(
+fn a_source_gives_its_bytes_and_then_the_end_and_a_sink_keeps_what_it_takes(
     rt: HostRuntime,
 ) -> Result<(), Fail> {
     let alloc = rt.alloc();
+    let text = Bytes::from_slice(alloc, b"AB")?;
+    let mut source = MemSource::new(alloc, text, List::from_slice(alloc, &[6, 2, 2])?)?;
+    let some = [Next::Byte(b'A'), Next::Failed];
+    assert!(rt; gives(&mut source, &some) && source.left() == b"B".as_slice());
+    let rest = [
+        Next::Byte(b'B'),
+        Next::End,
+        Next::End,
+        Next::Failed,
+        Next::End,
+    ];
+    assert!(rt; gives(&mut source, &rest) && source.calls() == 7 && source.faults() == 2);
+    let mut sure = SureSource::new(alloc, Bytes::from_slice(alloc, b"Z")?)?;
+    assert!(rt; sure.left() == b"Z".as_slice());
+    assert!(rt; gives(&mut sure, &[Next::Byte(b'Z'), Next::End, Next::End]));
     let mut sink = MemSink::new(alloc, 2, List::from_slice(alloc, &[1, 3])?)?;
-    let answers = [Err(Failed), Ok(()), Err(Failed), Ok(()), Err(Failed)];
-    for (answer, byte) in answers.iter().zip(b"12345") {
-        assert_eq!(rt; put(&mut sink, *byte), *answer, "{byte}");
-    }
-    assert_eq!(rt; sink.written(), b"24".as_slice());
-    assert_eq!(rt; (sink.room(), sink.calls(), sink.faults()), (0, 5, 3));
+    let puts = [(1, false), (2, true), (3, false), (4, true), (5, false)];
+    assert!(rt; takes(&mut sink, &puts) && sink.written() == [2, 4].as_slice());
+    assert!(rt; sink.room() == 0 && sink.calls() == 5 && sink.faults() == 3);
     Ok(())
 }
