@@ -11,10 +11,9 @@ use Rattle.rt_top.specs.Source.{Control, CallsRoot, InRoot, InRrout, HasPut, Has
 use Rattle.rt_top.specs.Image.{InRanges, IsMark, block_at, brick_at, brick_end, words_bytes}
 use Rattle.rt_top.specs.Machine.{State, Reached, At, Over, Faulted, sp, go, onward, start, boundary}
 use Rattle.rt_top.specs.Faithful.{Holds, Same, Meets, Faithful, block_words, quiet}
-use Rattle.rt_top.specs.Code.{image_of, code_of, marks_of, body_marks}
+use Rattle.rt_top.specs.Code.{Fits, image_of, code_of, marks_of, body_marks}
 use Rattle.rt_top.proofs.CodeWords.{length-words_bytes, length-body_marks}
 use Rattle.rt_top.proofs.Picture as picture
-use Rattle.rt_top.proofs.Picture.{Fits}
 
 -- bytes that the memory has one after another
 holds : (mem : ℕ → ℕ) (at : ℕ) (bs : List ℕ) → ((x : ℕ) → x < length bs → mem (at + x) ≡ get_or bs x 0) → Holds mem at bs

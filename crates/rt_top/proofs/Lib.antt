@@ -6,3 +6,6 @@ pub mod Joining
 pub mod Loops
 pub mod Runs
 pub mod Lists
+pub mod Rises
+pub mod Accepts
+pub mod Endings

@@ -19,17 +19,10 @@ use Rattle.rt_top.specs.Source.{Call, Return, Service, Control, CallsRoot, InRoo
 use Rattle.rt_top.specs.Image.{code_end, block_at, brick_at, brick_end, memory_bytes, protection, words_bytes}
 use Rattle.rt_top.specs.Machine.{State, Reached, At, Over, Faulted, steps, mark_at, pc, service, served, go, judge, boundary_at}
 use Rattle.rt_top.specs.Faithful.{quiet, block_words}
-use Rattle.rt_top.specs.Code.{image_of, code_of, marks_of, body_words, body_marks}
+use Rattle.rt_top.specs.Code.{Fits, image_of, code_of, marks_of, body_words, body_marks}
 use Rattle.rt_top.proofs.Instructions.{regs_of, mov, jsr, rts, trap_put, trap_end}
 use Rattle.rt_top.proofs.Access.{fetch_ok, read_ok, write_ok, put_apart, word_put, word_agrees, word_of_bytes}
 use Rattle.rt_top.proofs.CodeWords.{low_byte, high_byte, length-body_words, body_word, body_mark, behind_entry, behind_entry_marks}
-
--- what the form says of a module, as far as the picture needs it
-pub record Fits (m : FirstModule) : Type 0 where
-  pub few : length m.puts ≤ 255
-  pub small : AllByRecursion (λ n. n ≤ 255) m.puts
-  pub least : 4 ≤ m.words
-  pub most : m.words ≤ 1000
 
 pub all_at : (P : ℕ → Type 0) (bs cs : List ℕ) (i b : ℕ) → AllByRecursion P bs → drop i bs ≡ b ∷ cs → P b
 all_at P [] cs zero b h e = cc

@@ -1,5 +1,6 @@
 -- The image that is made of a first module and its task.
-use Rattle.std.specs.Prelude.{ℕ, ◌+◌, ◌*◌, List, [], ◌∷◌, ◌++◌, length}
+use Rattle.std.specs.List.{AllByRecursion}
+use Rattle.std.specs.Prelude.{ℕ, ◌≤◌, ◌+◌, ◌*◌, List, [], ◌∷◌, ◌++◌, length}
 use Rattle.rt_first.specs.declared.module.FirstModule.{FirstModule}
 use Rattle.rt_first.specs.declared.system.FirstSystem.{FirstSystem}
 use Rattle.rt_top.specs.declared.image.Image.{Image}
@@ -57,3 +58,10 @@ image_of s m = record {
   bytes = [];
   task = record { name = s.task; priority = s.priority; entry = entry; block = block_words start_data; stack = m.words };
 }
+
+-- what the form says of a module, as far as its code needs it
+pub record Fits (m : FirstModule) : Type 0 where
+  pub few : length m.puts ≤ 255
+  pub small : AllByRecursion (λ n. n ≤ 255) m.puts
+  pub least : 4 ≤ m.words
+  pub most : m.words ≤ 1000

@@ -2,7 +2,7 @@
 use Rattle.std.specs.Prelude.{ℕ, ◌≡◌, ◌≢◌, ◌≤◌, List, [], ◌∷◌, ◌++◌, Option, Some, None}
 use Rattle.std.specs.Io.KnownBytes.{Keeps, Appends}
 use Rattle.rt_words.specs.Causes.{Rose}
-use Rattle.rt_outside.specs.Files.{Files, WhereTold, Has, ChangesOnly}
+use Rattle.rt_outside.specs.Files.{Files, IsTold, Has, ChangesOnly}
 use Rattle.rt_first.specs.declared.module.FirstModule.{FirstModule}
 use Rattle.rt_first.specs.declared.system.FirstSystem.{FirstSystem}
 use Rattle.rt_top.specs.declared.condition.Condition.{Condition}
@@ -29,6 +29,12 @@ pub record Call : Type 0 where
   pub faults : ℕ
   pub faults_after : ℕ
 
+abbrev pub the_call : Option Files → Option Files → (List ℕ → ℕ) → (List ℕ → ℕ) → (List ℕ → ℕ) → (List ℕ → ℕ) → Option (List ℕ) → Option (List ℕ) → ℕ → ℕ → Call
+the_call files files2 reads reads2 writes writes2 written written2 faults faults2 = record {
+  files = files; files_after = files2; reads = reads; reads_after = reads2; writes = writes; writes_after = writes2;
+  written = written; written_after = written2; faults = faults; faults_after = faults2;
+}
+
 -- a proper start of the text was appended
 pub record AppendsStart (old new : Option (List ℕ)) (text : List ℕ) : Type 0 where
   pub start : List ℕ
@@ -37,9 +43,14 @@ pub record AppendsStart (old new : Option (List ℕ)) (text : List ℕ) : Type 0
   pub proper : rest ≢ []
   pub appended : Appends old new start
 
+-- where the files were told before, this holds of them afterwards
+abbrev pub Afterwards : Option Files → Option Files → (Files → Type 0) → Type 0
+Afterwards None now P = Unit {0}
+Afterwards (Some files) now P = IsTold now P
+
 -- only the report was written, with this text
 pub record LeavesReport (c : Call) (g : Go) (text : List ℕ) : Type 0 where
-  pub report : WhereTold c.files_after (Has (report_name g) text)
+  pub report : Afterwards c.files c.files_after (Has (report_name g) text)
   pub others : ChangesOnly (report_name g) c.files c.files_after
   pub output : Keeps c.written c.written_after
 
@@ -66,7 +77,7 @@ pub record Made (words : List (List ℕ)) (c : Call) (g : Go) (s : FirstSystem) 
 
 -- the image holds its spelling
 abbrev pub HasImage : Call → Go → Image → Type 0
-HasImage c g image = WhereTold c.files_after (Has (image_name g) (spelling image))
+HasImage c g image = Afterwards c.files c.files_after (Has (image_name g) (spelling image))
 
 pub data Ends (words : List (List ℕ)) (c : Call) : ℕ → Type 0 where
   -- no command has these words: the fault line is put
@@ -90,4 +101,4 @@ pub data Ends (words : List (List ℕ)) (c : Call) : ℕ → Type 0 where
   -- the report of the run can't be written
   run_unreported : (g : Go) (s : FirstSystem) (m : FirstModule) (image : Image) (r : RunReport) → Made words c g s m image → HasImage c g image → ChangesTwo g c.files c.files_after → IsRun image g.limit r → Appends c.written c.written_after r.output → Rose (c.writes (report_name g)) (c.writes_after (report_name g)) → Ends words c 21
   -- the run, its output and its report
-  ran : (g : Go) (s : FirstSystem) (m : FirstModule) (image : Image) (r : RunReport) → Made words c g s m image → HasImage c g image → ChangesTwo g c.files c.files_after → WhereTold c.files_after (Has (report_name g) (report_text s.task r)) → IsRun image g.limit r → Appends c.written c.written_after r.output → Ends words c (run_status r.condition)
+  ran : (g : Go) (s : FirstSystem) (m : FirstModule) (image : Image) (r : RunReport) → Made words c g s m image → HasImage c g image → ChangesTwo g c.files c.files_after → Afterwards c.files c.files_after (Has (report_name g) (report_text s.task r)) → IsRun image g.limit r → Appends c.written c.written_after r.output → Ends words c (run_status r.condition)

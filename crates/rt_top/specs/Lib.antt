@@ -9,4 +9,6 @@ pub mod GoWords
 pub mod Report
 pub mod Outcome
 pub mod Ends
+pub mod Prepared
+pub mod Accepting
 pub mod Running

@@ -10,7 +10,6 @@ use std::alloc::Global;
 pub fn spelled(alloc: Global, image: &Image) -> Result<Text, Memory>
     requires code { length image.now.code < 2 ^ 16 }
     requires bytes { length image.now.bytes < 2 ^ 16 }
-    requires name { length image.now.task.name < 2 ^ 8 }
     ensures { IfOk result (λ t. t.items ≡ spelling image.now) }
 {
     let mut out = Text::new(alloc, 0)?;
@@ -37,7 +36,6 @@ pub fn memory_of(alloc: Global, image: &Image) -> Result<Text, Memory>
 }
 
 fn put_task(out: &mut Text, task: &ImageTask) -> Result<(), Memory>
-    requires { length task.now.name < 2 ^ 8 }
     ensures { OnOk result (out.new.items ≡ out.old.items ++ task_bytes task.now) }
 {
     let name = task.name.as_slice();
