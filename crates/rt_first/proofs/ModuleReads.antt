@@ -1,14 +1,14 @@
 -- The readers of a module text are right.
 use Rattle.std.proofs.Common.{◌≡◌, ◌≢◌, ℕ, zero, suc, ◌+◌, ◌-◌, ◌*◌, ◌<◌, ◌≤◌, Bool, true, false, not, ◌&&◌, cond, nat_le, List, [], ◌∷◌, ◌++◌, length, Option, Some, None, refl, sym, ap, subst, ◌∙◌, arith, length-append}
 use Rattle.std.specs.Prelude.{codes}
-use Rattle.std.specs.List.{AllByRecursion, list_all}
-use Rattle.rt_first.specs.Names.{IsLetterRun, IsPlainName}
-use Rattle.rt_first.specs.Pieces.{Piece, Letters, Number, Mark, IsLayout, Spells, done}
+use Rattle.std.specs.List.{AllByRecursion}
+use Rattle.rt_first.specs.Names.{IsPlainName}
+use Rattle.rt_first.specs.Pieces.{Piece, Letters, Number, IsLayout, Spells, done}
 use Rattle.rt_first.specs.Module.{semicolon, opens, closes, IsFirstModule}
 use Rattle.rt_first.specs.declared.module.FirstModule.{FirstModule}
 use Rattle.rt_first.specs.declared.system.FirstSystem.{FirstSystem}
 use Rattle.rt_first.specs.Module as text
-use Rattle.rt_first.specs.Readers.{Reader, and_then, behind, before, both, passing, is_name, is_layout}
+use Rattle.rt_first.specs.Readers.{and_then, before, is_name, is_layout}
 use Rattle.rt_first.specs.ReadingSystem.{is_run}
 use Rattle.rt_first.specs.ReadingModule.{letters, word, mark, number, name, title, service, Heading, heading, statement, more, statements, closing, suits, is_layout_alone, laid_out, body_of, with_heading, suited, parts_of, with_puts}
 use Rattle.rt_first.specs.ReadingModule as reads

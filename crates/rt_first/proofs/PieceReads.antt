@@ -1,18 +1,18 @@
 -- The readers of one piece are right.
-use Rattle.std.proofs.Common.{◌≡◌, ℕ, ◌+◌, ◌-◌, ◌*◌, ◌<◌, ◌≤◌, Bool, true, false, not, ◌&&◌, ◌||◌, cond, nat_le, eqb, List, [], ◌∷◌, ◌++◌, length, min, Option, Some, None, ◌⊎◌, inl, inr, refl, sym, ap, subst, ◌∙◌, arith, append_assoc}
-use Rattle.std.specs.Prelude.{fold, codes}
+use Rattle.std.proofs.Common.{◌≡◌, ℕ, ◌+◌, ◌-◌, ◌*◌, ◌≤◌, Bool, true, false, ◌&&◌, cond, nat_le, eqb, List, [], ◌∷◌, ◌++◌, min, Option, Some, None, inl, inr, refl, sym, ap, subst, ◌∙◌, arith}
+use Rattle.std.specs.Prelude.{fold}
 use Rattle.std.specs.List.{AllByRecursion, list_all}
 use Rattle.std.specs.Str.{bytes_eq}
 use Rattle.std.proofs.lemmas.Bool.Decides.{nat_tests}
 use Rattle.std.proofs.lemmas.Bool.{eqb-true, eq-eqb}
 use Rattle.std.proofs.lemmas.Slice.Eq.{bytes_eq-Decides}
 use Rattle.rt_first.specs.Names.{IsLetter, IsDigit, IsLetterOrDigit, IsLetterRun}
-use Rattle.rt_first.specs.Pieces.{Piece, Letters, Number, Mark, IsLayout, value_after, IsDecimal, IsQuoted, IsWritten, DoesNotBegin, IsLongest, Spells, done, piece}
-use Rattle.rt_first.specs.Readers.{Reader, and_then, is_layout, is_letter, is_digit, is_letter_or_digit, run, after_layout, digits_value}
+use Rattle.rt_first.specs.Pieces.{Piece, Letters, Number, Mark, IsLayout, value_after, IsDecimal, IsWritten, DoesNotBegin, IsLongest, Spells, piece}
+use Rattle.rt_first.specs.Readers.{Reader, is_layout, is_letter, is_digit, is_letter_or_digit, run, after_layout, digits_value}
 use Rattle.rt_first.specs.ReadingModule.{letters_at, letters, word, mark_at, mark, quoted_at, decimal_at, or_else, number}
 use Rattle.rt_first.specs.ReadingSystem.{is_run}
 use Rattle.rt_first.proofs.Runs.{Each, Ends, IsRun, run_sound, run_complete, each_of, all_of}
-use Rattle.rt_first.proofs.Reading.{Reads, Any, none_some, some_inj, passes, found, reads_passing}
+use Rattle.rt_first.proofs.Reading.{Reads, Any, none_some, passes, found}
 
 -- ---- bytes
 

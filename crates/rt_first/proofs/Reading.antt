@@ -1,5 +1,5 @@
 -- Readers that are right for the parts that they read, and how they are put together.
-use Rattle.std.proofs.Common.{◌≡◌, ℕ, Bool, true, false, cond, List, Option, Some, None, refl, sym, ap, ◌∙◌, arith}
+use Rattle.std.proofs.Common.{◌≡◌, ℕ, Bool, true, false, cond, List, Option, Some, None, refl, sym, ap, ◌∙◌}
 use Rattle.rt_first.specs.Readers.{Reader, and_then, behind, before, both, passing}
 
 -- The reader gives a value that passes the condition, for just the texts whose front spells the value's part.

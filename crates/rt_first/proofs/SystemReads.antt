@@ -1,6 +1,6 @@
 -- The readers of a system text are right.
-use Rattle.std.proofs.Common.{◌≡◌, ◌≢◌, ℕ, zero, suc, ◌+◌, ◌-◌, ◌*◌, ◌^◌, ◌<◌, ◌≤◌, Bool, true, false, not, ◌&&◌, cond, nat_le, eqb, List, [], ◌∷◌, ◌++◌, length, take, drop, get_or, Option, Some, None, ◌⊎◌, inl, inr, refl, sym, ap, subst, ◌∙◌, arith, rules, append_assoc}
-use Rattle.std.specs.Prelude.{codes, decimal, fold}
+use Rattle.std.proofs.Common.{◌≡◌, ◌≢◌, ℕ, zero, suc, ◌^◌, ◌<◌, ◌≤◌, Bool, true, false, not, ◌&&◌, cond, nat_le, eqb, List, [], ◌∷◌, ◌++◌, length, take, drop, get_or, Option, Some, None, ◌⊎◌, inl, inr, refl, sym, ap, subst, ◌∙◌, arith, rules, append_assoc}
+use Rattle.std.specs.Prelude.{codes, decimal}
 use Rattle.std.specs.List.{AllByRecursion, list_all}
 use Rattle.std.specs.Str.{bytes_eq}
 use Rattle.std.proofs.lemmas.Bool.Decides.{nat_tests}
@@ -12,11 +12,11 @@ use Rattle.rt_first.specs.Names.{IsDigit, IsLetter, IsLetterOrDigit, IsLetterRun
 use Rattle.rt_first.specs.Pieces.{value_after}
 use Rattle.rt_first.specs.System.{IsPrintable, system_text, IsFirstSystem}
 use Rattle.rt_first.specs.declared.system.FirstSystem.{FirstSystem}
-use Rattle.rt_first.specs.Readers.{Reader, and_then, behind, before, both, passing, is_letter, is_letter_or_digit, is_digit, is_printable, run, is_name, digits_value}
+use Rattle.rt_first.specs.Readers.{and_then, before, both, passing, is_digit, is_printable, run, is_name, digits_value}
 use Rattle.rt_first.specs.ReadingSystem.{exactly, field, is_some, is_run, name_field, priority_of, numbered, priority, file_field, spaced_name, module_line, Fields, task_line, is_end, ended, fields_of}
-use Rattle.rt_first.proofs.Runs.{Each, Ends, IsRun, run_sound, run_complete, each_of, all_of}
-use Rattle.rt_first.proofs.Reading.{ReadsBefore, Reads, Any, none_some, some_inj, passes, found, reads_behind, reads_before, reads_both, reads_passing}
-use Rattle.rt_first.proofs.PieceReads.{true_false, not_true, and_parts, and_both, list_each, each_list, run_means, run_is, digit_is, digit_means, value_is, le_is, le_means}
+use Rattle.rt_first.proofs.Runs.{Each, Ends, run_sound, run_complete, each_of, all_of}
+use Rattle.rt_first.proofs.Reading.{ReadsBefore, Reads, Any, none_some, some_inj, passes, found, reads_behind, reads_both, reads_passing}
+use Rattle.rt_first.proofs.PieceReads.{true_false, and_parts, and_both, list_each, each_list, run_means, run_is, digit_is, digit_means, value_is}
 use Rattle.rt_first.proofs.NameReads.{name_means, name_is}
 
 -- the text is what is spelled

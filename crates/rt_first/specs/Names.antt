@@ -1,5 +1,5 @@
 -- Names of the first form: upper-case letters and digits, none of them a reserved word.
-use Rattle.std.specs.Prelude.{ℕ, ◌≡◌, ◌≢◌, ◌≤◌, ◌⊎◌, List, [], ◌∷◌, length, codes, Contains}
+use Rattle.std.specs.Prelude.{ℕ, ◌≤◌, ◌⊎◌, List, [], ◌∷◌, length, codes, Contains}
 use Rattle.std.specs.List.{AllByRecursion}
 
 abbrev pub IsLetter : ℕ → Type 0

@@ -1,5 +1,5 @@
 -- The reader of a module text of the first form.
-use Rattle.std.specs.Prelude.{◌≡◌, ℕ, zero, suc, ◌+◌, Bool, true, false, ◌&&◌, ◌||◌, ◌==◌, nat_le, if◌then◌else◌, not, List, [], ◌∷◌, ◌++◌, length, codes, min, Option, Some, None}
+use Rattle.std.specs.Prelude.{ℕ, zero, suc, Bool, ◌&&◌, ◌==◌, nat_le, if◌then◌else◌, not, List, [], ◌∷◌, ◌++◌, codes, min, Option, Some, None}
 use Rattle.std.specs.Str.{bytes_eq}
 use Rattle.rt_first.specs.Readers.{Reader, behind, before, both, passing, and_then, is_layout, is_letter, is_letter_or_digit, is_digit, run, after_layout, is_name, digits_value}
 use Rattle.std.specs.List.{list_all}

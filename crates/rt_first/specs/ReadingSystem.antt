@@ -1,5 +1,5 @@
 -- The reader of a system text of the first form.
-use Rattle.std.specs.Prelude.{ℕ, ◌+◌, ◌-◌, Bool, true, false, ◌&&◌, ◌||◌, ◌==◌, nat_le, if◌then◌else◌, not, List, [], ◌∷◌, length, drop, take, codes, Option, Some, None}
+use Rattle.std.specs.Prelude.{ℕ, Bool, true, false, ◌&&◌, ◌==◌, nat_le, if◌then◌else◌, not, List, [], ◌∷◌, length, drop, take, codes, Option, Some, None}
 use Rattle.std.specs.Str.{bytes_eq}
 use Rattle.std.specs.List.{list_all}
 use Rattle.rt_first.specs.Readers.{Reader, behind, before, both, passing, and_then, is_letter, is_letter_or_digit, is_digit, is_printable, run, is_name, digits_value}

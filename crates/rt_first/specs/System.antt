@@ -1,5 +1,5 @@
 -- What bytes a system text of the first form is.
-use Rattle.std.specs.Prelude.{ℕ, ◌≡◌, ◌≢◌, ◌≤◌, ◌⊎◌, List, [], ◌∷◌, ◌++◌, codes, decimal}
+use Rattle.std.specs.Prelude.{ℕ, ◌≡◌, ◌≢◌, ◌≤◌, ◌⊎◌, List, [], ◌++◌, codes, decimal}
 use Rattle.std.specs.List.{AllByRecursion}
 use Rattle.rt_first.specs.Names.{IsPlainName}
 use Rattle.rt_first.specs.declared.system.FirstSystem.{FirstSystem}

@@ -1,6 +1,3 @@
-use Rattle.std.proofs.Common.{sym, ap, subst, ℕ, List}
-use Rattle.rt_first.specs.declared.module.FirstModule.{FirstModule}
-use Rattle.rt_first.specs.Module.{IsFirstModule}
 use Rattle.rt_first.proofs.NameReads.{name_some}
 use Rattle.rt_first.proofs.ModuleReads.{no_parts, heading_names, same_module, parts_sound}
 use Rattle.rt_first.proofs.module.read_first_module.Goals as goal

@@ -1,4 +1,4 @@
-use Rattle.rt_first.proofs.ModuleReads.{first_turn, no_statement, last_statement, next_statement, too_many}
+use Rattle.rt_first.proofs.ModuleReads.{first_turn, last_statement, next_statement}
 use Rattle.rt_first.proofs.module.statements.Goals as goal
 
 pub loop-turn-init : goal.loop-turn-init
