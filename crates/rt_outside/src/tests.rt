@@ -74,6 +74,46 @@ fn add(
     }
 }
 
+const LONG: &str = "A.NAME.OF.MORE.THAN.THIRTY-TWO.BYTES";
+
+static BY_NAME: [(Call<'static>, Result<&'static [u8], StoreError>); 19] = [
+    (Read("A"), Ok(b"one")),
+    (Read("B"), Ok(b"")),
+    (Read(""), Err(StoreError::Missing)),
+    (Read(LONG), Err(StoreError::Missing)),
+    (Write(LONG, b"long"), Ok(b"")),
+    (Write("", b"unnamed"), Ok(b"")),
+    (Read(""), Ok(b"unnamed")),
+    (Write("A", b"three"), Ok(b"")),
+    (Read(LONG), Ok(b"long")),
+    (Write(LONG, b"longer"), Ok(b"")),
+    (Write("", b""), Ok(b"")),
+    (Write("", b""), Ok(b"")),
+    (Write("C", b"c"), Ok(b"")),
+    (Read("A"), Ok(b"three")),
+    (Read("B"), Ok(b"")),
+    (Read("C"), Ok(b"c")),
+    (Read(""), Ok(b"")),
+    (Read(LONG), Ok(b"longer")),
+    (Read("D"), Err(StoreError::Missing)),
+];
+
+static BY_NUMBER: [(Call<'static>, Result<&'static [u8], StoreError>); 13] = [
+    (Write("B", b"1234"), Ok(b"")),
+    (Read("L"), Err(StoreError::TooLong)),
+    (Read("L"), Err(StoreError::Failed)),
+    (Read("NONE"), Err(StoreError::Failed)),
+    (Write("A", b"two"), Err(StoreError::Failed)),
+    (Write("A", b"12345"), Err(StoreError::Failed)),
+    (Read("A"), Ok(b"one")),
+    (Write("A", b"1234"), Ok(b"")),
+    (Read("A"), Err(StoreError::Failed)),
+    (Read("A"), Ok(b"1234")),
+    (Write("", b"1"), Err(StoreError::Failed)),
+    (Write("", b""), Ok(b"")),
+    (Read(""), Ok(b"")),
+];
+
 #[test]
 fn a_store_gives_the_first_file_of_a_name_or_the_one_last_written(
     rt: HostRuntime,
@@ -84,30 +124,8 @@ fn a_store_gives_the_first_file_of_a_name_or_the_one_last_written(
     add(alloc, &mut files, "B", Bytes::new(alloc, 0)?)?;
     add(alloc, &mut files, "A", Bytes::from_slice(alloc, b"two")?)?;
     let mut store = MemStore::new(alloc, files, 200, List::new(alloc, 0)?)?;
-    let long = "A.NAME.OF.MORE.THAN.THIRTY-TWO.BYTES";
-    let calls: [(Call<'_>, Result<&[u8], StoreError>); 19] = [
-        (Read("A"), Ok(b"one")),
-        (Read("B"), Ok(b"")),
-        (Read(""), Err(StoreError::Missing)),
-        (Read(long), Err(StoreError::Missing)),
-        (Write(long, b"long"), Ok(b"")),
-        (Write("", b"unnamed"), Ok(b"")),
-        (Read(""), Ok(b"unnamed")),
-        (Write("A", b"three"), Ok(b"")),
-        (Read(long), Ok(b"long")),
-        (Write(long, b"longer"), Ok(b"")),
-        (Write("", b""), Ok(b"")),
-        (Write("", b""), Ok(b"")),
-        (Write("C", b"c"), Ok(b"")),
-        (Read("A"), Ok(b"three")),
-        (Read("B"), Ok(b"")),
-        (Read("C"), Ok(b"c")),
-        (Read(""), Ok(b"")),
-        (Read(long), Ok(b"longer")),
-        (Read("D"), Err(StoreError::Missing)),
-    ];
-    assert!(rt; answers(&mut store, alloc, &calls));
-    assert!(rt; store.file(long) == Some(b"longer"));
+    assert!(rt; answers(&mut store, alloc, &BY_NAME));
+    assert!(rt; store.file(LONG) == Some(b"longer"));
     assert!(rt; store.room() == 200 - 97 && store.calls() == 19 && store.faults() == 0);
     Ok(())
 }
@@ -129,22 +147,7 @@ fn a_store_fails_by_the_number_of_the_call_and_where_the_room_is_too_small(
     }
     let fails = List::from_slice(alloc, &[9, 3, 0, 4, 5, 3])?;
     let mut store = MemStore::new(alloc, files, 10, fails)?;
-    let calls: [(Call<'_>, Result<&[u8], StoreError>); 13] = [
-        (Write("B", b"1234"), Ok(b"")),
-        (Read("L"), Err(StoreError::TooLong)),
-        (Read("L"), Err(StoreError::Failed)),
-        (Read("NONE"), Err(StoreError::Failed)),
-        (Write("A", b"two"), Err(StoreError::Failed)),
-        (Write("A", b"12345"), Err(StoreError::Failed)),
-        (Read("A"), Ok(b"one")),
-        (Write("A", b"1234"), Ok(b"")),
-        (Read("A"), Err(StoreError::Failed)),
-        (Read("A"), Ok(b"1234")),
-        (Write("", b"1"), Err(StoreError::Failed)),
-        (Write("", b""), Ok(b"")),
-        (Read(""), Ok(b"")),
-    ];
-    assert!(rt; answers(&mut store, alloc, &calls));
+    assert!(rt; answers(&mut store, alloc, &BY_NUMBER));
     assert!(rt; store.room() == 0 && store.calls() == 13 && store.faults() == 6);
     let longest = store.read(alloc, "K").ok().ok_or("not read")?;
     assert!(rt; longest.len() == 4_194_304);
