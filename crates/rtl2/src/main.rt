@@ -5,6 +5,7 @@
 mod console;
 mod errors;
 mod files;
+mod tell;
 mod texts;
 
 use console::{InputSource, OutputSink};
@@ -17,13 +18,12 @@ use std::io::ErrorKind;
 use std::process::ExitCode;
 use std::rt::{Env, Files};
 use std::{env, io};
+use tell::tell;
 use texts::{USAGE, VERSION};
 
 const DONE: u8 = 0;
 
 const WRONG_WORDS: u8 = 10;
-
-const WRITE_FAULT: u8 = 21;
 
 const NO_MEMORY: u8 = 30;
 
@@ -68,16 +68,6 @@ fn answer<R: Files + Input + Eprint + AllocGlobal, O: Sink>(
     let mut store = FileStore::new(rt);
     let mut input = InputSource::new(rt.reader());
     with_usage(rt, top(rt.alloc(), words, &mut store, &mut input, output))
-}
-
-// Puts a text, and answers this status where that succeeds.
-fn tell<O: Sink>(output: &mut O, text: &str, status: u8) -> u8 {
-    for byte in text.bytes() {
-        if output.put(byte).is_err() {
-            return WRITE_FAULT;
-        }
-    }
-    status
 }
 
 // The same status; for wrong words the usage is written on standard error.
