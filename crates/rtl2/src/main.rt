@@ -2,6 +2,8 @@
 //! standard output to [`rt_top::top`], and ends with the answer as its status.
 #![tactic(auto)]
 
+ghost use Rattle.std.specs.Prelude.{◌≡◌};
+
 mod console;
 mod errors;
 mod files;
@@ -71,7 +73,9 @@ fn answer<R: Files + Input + Eprint + AllocGlobal, O: Sink>(
 }
 
 // The same status; for wrong words the usage is written on standard error.
-fn with_usage<R: Eprint>(rt: &R, status: u8) -> u8 {
+fn with_usage<R: Eprint>(rt: &R, status: u8) -> u8
+    ensures { result ≡ status }
+{
     if status == WRONG_WORDS {
         let _ = rt.eprint(USAGE);
     }
