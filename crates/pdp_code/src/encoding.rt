@@ -1,5 +1,5 @@
 // Words from instructions.
-ghost use Rattle.std.specs.Prelude.{◌≡◌, ◌+◌, ◌<◌, ◌≤◌, ◌∷◌, ◌++◌, [], length, take};
+ghost use Rattle.std.specs.Prelude.{◌≡◌, ◌+◌, ◌<◌, ◌≤◌, ◌∷◌, ◌++◌, [], length, take, drop};
 ghost use Rattle.pdp_code.specs.Code.{reg_code, pointer_code, operand_code, operand_words, size_code, double_code, sum_code, single_code, word_code, register_code, condition_code, bit_code, first_word, words_of, IsCodable};
 
 use crate::instruction::{
@@ -161,6 +161,13 @@ fn bit(b: bool) -> u16
     if b { 1 } else { 0 }
 }
 
+/// The word that sets or clears flags.
+pub fn flags_code(u: bool, n: bool, z: bool, v: bool, c: bool) -> u16
+    ensures { result ≡ first_word (Instr.Flags u n z v c) }
+{
+    160 + (bit(u) * 16 + (bit(n) * 8 + (bit(z) * 4 + (bit(v) * 2 + bit(c)))))
+}
+
 /// The first word of an instruction.
 fn first_code(i: &Instr) -> u16
     requires { IsCodable i.now }
@@ -179,15 +186,16 @@ fn first_code(i: &Instr) -> u16
         Instr::Call(r, d) => 2048 + (number(r) * 64 + bits(d)),
         Instr::Return(r) => 128 + number(r),
         Instr::Trap(n) => 35072 + n as u16,
-        Instr::Flags(u, n, z, v, c) => 160
-            + (bit(u) * 16 + (bit(n) * 8 + (bit(z) * 4 + (bit(v) * 2 + bit(c))))),
+        Instr::Flags(u, n, z, v, c) => flags_code(u, n, z, v, c),
     }
 }
 
 /// The word that follows for an operand, or 0, and how many follow.
 fn following(o: Operand) -> (u16, u8)
     ensures value { take result.1 (result.0 ∷ []) ≡ operand_words o }
+    ensures long { result.1 ≡ length (operand_words o) }
     ensures few { result.1 ≤ 1 }
+    ensures rest { result.1 ≡ 0 → result.0 ≡ 0 }
 {
     match o {
         Operand::Index(_, x) => (x, 1),
@@ -199,14 +207,20 @@ fn following(o: Operand) -> (u16, u8)
 }
 
 fn with_one(w: u16, o: Operand) -> ([u16; 3], u8)
-    ensures { take result.1 result.0 ≡ w ∷ operand_words o }
+    ensures words { take result.1 result.0 ≡ w ∷ operand_words o }
+    ensures long { result.1 ≡ length (w ∷ operand_words o) }
+    ensures lengths { (1 ≤ result.1) × (result.1 ≤ 3) }
+    ensures rest { drop result.1 result.0 ≡ drop result.1 (0 ∷ 0 ∷ 0 ∷ []) }
 {
     let (x, n) = following(o);
     ([w, x, 0], 1 + n)
 }
 
 fn with_two(w: u16, s: Operand, d: Operand) -> ([u16; 3], u8)
-    ensures { take result.1 result.0 ≡ w ∷ (operand_words s ++ operand_words d) }
+    ensures words { take result.1 result.0 ≡ w ∷ (operand_words s ++ operand_words d) }
+    ensures long { result.1 ≡ length (w ∷ (operand_words s ++ operand_words d)) }
+    ensures lengths { (1 ≤ result.1) × (result.1 ≤ 3) }
+    ensures rest { drop result.1 result.0 ≡ drop result.1 (0 ∷ 0 ∷ 0 ∷ []) }
 {
     let (x, n) = following(s);
     let (y, k) = following(d);
@@ -220,7 +234,10 @@ fn with_two(w: u16, s: Operand, d: Operand) -> ([u16; 3], u8)
 /// The words of an instruction, and how many of the three they are.
 pub fn encode(i: &Instr) -> ([u16; 3], u8)
     requires { IsCodable i.now }
-    ensures { take result.1 result.0 ≡ words_of i.now }
+    ensures words { take result.1 result.0 ≡ words_of i.now }
+    ensures long { result.1 ≡ length (words_of i.now) }
+    ensures lengths { (1 ≤ result.1) × (result.1 ≤ 3) }
+    ensures rest { drop result.1 result.0 ≡ drop result.1 (0 ∷ 0 ∷ 0 ∷ []) }
 {
     let w = first_code(i);
     match *i {
