@@ -1,5 +1,5 @@
 -- Decoding words, against the words of instructions.
-use Rattle.std.proofs.Common.{◌≡◌, ℕ, suc, ◌+◌, ◌<◌, List, [], ◌∷◌, ◌++◌, length, get_or, drop, refl, sym, ap, ◌∙◌, subst, arith, append_assoc, Option, Some, None, length-append, drop-cons}
+use Rattle.std.proofs.Common.{◌≡◌, ℕ, suc, ◌+◌, ◌<◌, ◌≤◌, List, [], ◌∷◌, ◌++◌, length, get_or, drop, refl, sym, ap, ◌∙◌, subst, arith, append_assoc, Option, Some, None, length-append, drop-cons}
 use Rattle.std.specs.Prelude.{slice_get, IfSome}
 use Rattle.std.proofs.lemmas.Option.{slice_get_within, get_or_from_slice_get}
 use Rattle.pdp_code.specs.declared.instruction.Operand.{Operand}
@@ -207,3 +207,47 @@ decoded_found ws small = by_value (decoded ws) refl
     by_value : (v : Option (Instr × ℕ)) → decoded ws ≡ v → IfSome v (λ d. Begins d.0 ws × (d.1 ≡ length (words_of d.0)))
     by_value None e = tt
     by_value (Some d) e = decoded_begins ws d.0 d.1 small e
+
+-- ---- how many words
+
+operand_few : (o : Operand) → length (operand_words o) ≤ 1
+operand_few (Register r) = omega arith
+operand_few (Deferred r) = omega arith
+operand_few (Increment r) = omega arith
+operand_few (IncrementDeferred r) = omega arith
+operand_few (Decrement r) = omega arith
+operand_few (DecrementDeferred r) = omega arith
+operand_few (Index r x) = omega arith
+operand_few (IndexDeferred r x) = omega arith
+operand_few (Immediate x) = omega arith
+operand_few (Absolute x) = omega arith
+
+both_few : (s d : Operand) → length (operand_words s ++ operand_words d) ≤ 2
+both_few s d = omega (arith, length-append (operand_words s) (operand_words d), operand_few s, operand_few d)
+
+more_few : (i : Instr) → length (more_words i) ≤ 2
+more_few (Double o z s d) = both_few s d
+more_few (Sum o s d) = both_few s d
+more_few (Single o z d) = omega (arith, operand_few d)
+more_few (OnWord o d) = omega (arith, operand_few d)
+more_few (OnRegister o r s) = omega (arith, operand_few s)
+more_few (Branch c n) = omega arith
+more_few (Loop r n) = omega arith
+more_few (Jump d) = omega (arith, operand_few d)
+more_few (Call r d) = omega (arith, operand_few d)
+more_few (Return r) = omega arith
+more_few (Trap n) = omega arith
+more_few (Flags u n z v c) = omega arith
+
+begins_long : (i : Instr) (ws : List ℕ) (n : ℕ) → Begins i ws × (n ≡ length (words_of i)) → (1 ≤ n) × (n ≤ 3) × (n ≤ length ws)
+begins_long i ws n b =
+    let more = more_few i in
+    let whole : length ws ≡ length (words_of i) + length b.0.1.0 = ap length b.0.1.1 ∙ length-append (words_of i) b.0.1.0 in
+    (omega (arith, b.1), omega (arith, b.1, more), omega (arith, b.1, whole))
+
+pub decoded_long : (ws : List ℕ) → ((k : ℕ) → get_or ws k 0 < 65536) → IfSome (decoded ws) (λ d. (1 ≤ d.1) × (d.1 ≤ 3) × (d.1 ≤ length ws))
+decoded_long ws small = by_value (decoded ws) refl
+  where
+    by_value : (v : Option (Instr × ℕ)) → decoded ws ≡ v → IfSome v (λ d. (1 ≤ d.1) × (d.1 ≤ 3) × (d.1 ≤ length ws))
+    by_value None e = tt
+    by_value (Some d) e = begins_long d.0 ws d.1 (decoded_begins ws d.0 d.1 small e)

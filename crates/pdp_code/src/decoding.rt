@@ -95,12 +95,14 @@ fn find(words: &[u16]) -> Option<(Instr, u8)>
     complete(i, words)
 }
 
-/// The instruction that begins these words, and how many of them it has.
+/// The instruction that begins these words, and how many of them it has; what follows them doesn't matter. None
+/// exactly where no instruction of the table begins them, among them words that end inside an instruction.
 pub fn decode(words: &[u16]) -> Option<(Instr, u8)>
     // what is told begins the words, and has so many of them
     ensures found { IfSome result (λ d. Begins d.0 words.now × (d.1 ≡ length (words_of d.0))) }
     // whatever begins the words is told: so nothing does where nothing is told
     ensures every { (i : Instr) → Begins i words.now → result ≡ Some (i, length (words_of i)) }
+    ensures lengths { IfSome result (λ d. (1 ≤ d.1) × (d.1 ≤ 3) × (d.1 ≤ length words.now)) }
 {
     find(words)
 }

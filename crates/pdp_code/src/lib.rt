@@ -6,6 +6,8 @@ mod encoding;
 pub mod first;
 pub mod instruction;
 mod printing;
+#[cfg(test)]
+mod tests;
 
 pub use decoding::decode;
 pub use encoding::encode;
