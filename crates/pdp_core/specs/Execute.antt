@@ -295,10 +295,18 @@ pair g r = slice_index g.r (reg_code r) * 65536 + slice_index g.r (reg_code r + 
 abbrev pub with_pair : Regs → Reg → ℕ → ℕ → Regs
 with_pair g r x y = record g { r = slice_set (slice_set g.r (reg_code r) x) (reg_code r + 1) y }
 
--- the registers after a product of 32 bits
+-- the 32 bits of the product of two signed words
+abbrev pub product_of : ℕ → ℕ → ℕ
+product_of a b = (widened a * widened b) % 4294967296
+
+-- whether 32 bits stand for a number outside the signed words
+abbrev pub no_word : ℕ → Bool
+no_word x = nat_le 32768 x && nat_lt x 4294934528
+
+-- the registers after a product of 32 bits: the pair of an even register, or the low word in an odd one
 abbrev pub with_product : Regs → Reg → ℕ → Regs
 with_product g r x =
-    let f = flags g (nat_le 2147483648 x) (x == 0) false (nat_le 32768 x && nat_lt x 4294934528) in
+    let f = flags g (nat_le 2147483648 x) (x == 0) false (no_word x) in
     if reg_code r % 2 == 1 then with_reg f r (x % 65536) else with_pair f r (x / 65536) (x % 65536)
 
 -- how far a number is from 0, where those from h on stand for themselves less l
@@ -309,17 +317,25 @@ magnitude l h x = if nat_le h x then l - x else x
 abbrev pub signed_word : Bool → ℕ → ℕ
 signed_word below x = if below then (65536 - x) % 65536 else x
 
--- a divided by b, where b is not 0
+-- whether the quotient of a, 32 bits, and b is no word: it is rounded towards zero, below 0 where the signs differ
+abbrev pub too_large : ℕ → ℕ → Bool
+too_large a b = nat_lt (if differ (nat_le 2147483648 a) (nat_le 32768 b) then 32768 else 32767) (magnitude 4294967296 2147483648 a / magnitude 65536 32768 b)
+
+abbrev pub quotient_word : ℕ → ℕ → ℕ
+quotient_word a b = signed_word (differ (nat_le 2147483648 a) (nat_le 32768 b)) (magnitude 4294967296 2147483648 a / magnitude 65536 32768 b)
+
+-- the remainder has the sign of a
+abbrev pub remainder_word : ℕ → ℕ → ℕ
+remainder_word a b = signed_word (nat_le 2147483648 a) (magnitude 4294967296 2147483648 a % magnitude 65536 32768 b)
+
+-- a divided by b, where b is not 0; where the quotient is too large, N and Z are 0 and no register is written (a choice
+-- of this project)
 abbrev pub with_quotient : Regs → Reg → ℕ → ℕ → Regs
 with_quotient g r a b =
-    let below = nat_le 2147483648 a in
-    let turned = differ below (nat_le 32768 b) in
-    let m = magnitude 4294967296 2147483648 a in
-    let n = magnitude 65536 32768 b in
-    let q = m / n in
-    if nat_lt (if turned then 32768 else 32767) q then flags g false false true false else
-    with_pair (by_value g Word (signed_word turned q) false false) r (signed_word turned q) (signed_word below (m % n))
+    if too_large a b then flags g false false true false else
+    with_pair (by_value g Word (quotient_word a b) false false) r (quotient_word a b) (remainder_word a b)
 
+-- where the divisor is 0, N and Z are 0 and no register is written (a choice of this project)
 abbrev pub divided : Regs → Reg → ℕ → Regs
 divided g r b = if b == 0 then flags g false false true true else with_quotient g r (pair g r) b
 
@@ -339,11 +355,14 @@ abbrev pub rights : ℕ → ℕ → Shift → Shift
 rights zero h s = s
 rights (suc n) h s = one_right h (rights n h s)
 
+-- before the first shift
+abbrev pub unshifted : ℕ → Shift
+unshifted x = record { value = x; carry = false; turned = false }
+
 -- by the low six bits of a word: to the left below 32, else to the right
 abbrev pub shifted : ℕ → ℕ → ℕ → ℕ → Shift
 shifted l h x n =
-    let s : Shift = record { value = x; carry = false; turned = false } in
-    if nat_lt (n % 64) 32 then lefts (n % 64) l h s else rights (64 - n % 64) h s
+    if nat_lt (n % 64) 32 then lefts (n % 64) l h (unshifted x) else rights (64 - n % 64) h (unshifted x)
 
 abbrev pub shift_word : Regs → Reg → Shift → Regs
 shift_word g r s = with_reg (by_value g Word s.value s.turned s.carry) r s.value
@@ -353,7 +372,7 @@ shift_pair g r s = with_pair (flags g (nat_le 2147483648 s.value) (s.value == 0)
 
 -- k is the register's word before the operand was addressed, which XOR takes
 abbrev pub on_register : World → Regs → ℕ → RegisterOp → Reg → Place → Result Outcome Failure
-on_register w g k Mul r p = and_then (load w Word g p) (λ x. goes_on w (with_product g r ((widened (reg g r) * widened x) % 4294967296)))
+on_register w g k Mul r p = and_then (load w Word g p) (λ x. goes_on w (with_product g r (product_of (reg g r) x)))
 on_register w g k Div r p = and_then (load w Word g p) (λ x. goes_on w (divided g r x))
 on_register w g k Ash r p = and_then (load w Word g p) (λ x. goes_on w (shift_word g r (shifted 65536 32768 (reg g r) x)))
 on_register w g k Ashc r p = and_then (load w Word g p) (λ x. goes_on w (shift_pair g r (shifted 4294967296 2147483648 (pair g r) x)))
@@ -361,7 +380,7 @@ on_register w g k Xor r p = and_then (load w Word g p) (λ x.
     let y = bit_xor x k in
     store w Word (by_value g Word y false g.c) p y)
 
--- whether an operation is not there for a register
+-- whether an operation is not there for a register: DIV and ASHC want an even one (a choice of this project)
 abbrev pub is_odd_pair : RegisterOp → Reg → Bool
 is_odd_pair Mul r = false
 is_odd_pair Div r = reg_code r % 2 == 1

@@ -3,6 +3,7 @@
 
 pub mod cpu;
 mod execute;
+pub mod laws;
 pub mod memory;
 mod operand;
 mod shift;

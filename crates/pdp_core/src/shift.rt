@@ -1,7 +1,7 @@
 // Products, quotients and shifts.
 ghost use Rattle.std.specs.Prelude.{◌≡◌, ◌+◌, ◌-◌, ◌*◌, ◌/◌, ◌%◌, ◌<◌, ◌≤◌, ◌^◌};
 ghost use Rattle.pdp_code.specs.Code.{reg_code};
-ghost use Rattle.pdp_core.specs.Execute.{widened, with_product, pair, with_pair, magnitude, signed_word, with_quotient, divided, one_left, one_right, lefts, rights, shifted, shift_word, shift_pair};
+ghost use Rattle.pdp_core.specs.Execute.{widened, product_of, with_product, pair, with_pair, magnitude, signed_word, with_quotient, divided, one_left, one_right, lefts, rights, shifted, shift_word, shift_pair};
 
 use crate::cpu::{Regs, Shift};
 use crate::operand::{get, index, set};
@@ -21,7 +21,7 @@ fn widen(x: u16) -> u64
 
 /// The product of two words, as 32 bits.
 pub fn product(a: u16, b: u16) -> u32
-    ensures { result ≡ (widened a * widened b) % 4294967296 }
+    ensures { result ≡ product_of a b }
 {
     ((widen(a) * widen(b)) % 4294967296) as u32
 }
