@@ -441,18 +441,40 @@ return_by w g r =
 abbrev pub trap : ℕ → World → Regs → ℕ → Result Outcome Failure
 trap at w g n = if nat_le 1 n && nat_le n 11 then Ok (record { stop = Service n; regs = g; world = w }) else Err (failure Reserved at)
 
+-- a source and a destination: the source is addressed and read before the destination is addressed
+abbrev pub double_step : World → Regs → DoubleOp → Size → Operand → Operand → Result Outcome Failure
+double_step w g o z s d = and_then (operand w z g s) (λ x. and_then (address w z x.1 d) (λ p. double w p.1 o z x.0 p.0))
+
+abbrev pub sum_step : World → Regs → SumOp → Operand → Operand → Result Outcome Failure
+sum_step w g o s d = and_then (operand w Word g s) (λ x. and_then (address w Word x.1 d) (λ p. sum w p.1 o x.0 p.0))
+
+abbrev pub single_step : World → Regs → SingleOp → Size → Operand → Result Outcome Failure
+single_step w g o z d = and_then (address w z g d) (λ p. single w p.1 o z p.0)
+
+abbrev pub word_step : World → Regs → WordOp → Operand → Result Outcome Failure
+word_step w g o d = and_then (address w Word g d) (λ p. on_word w p.1 o p.0)
+
+abbrev pub register_step : ℕ → World → Regs → RegisterOp → Reg → Operand → Result Outcome Failure
+register_step at w g o r s =
+    if is_odd_pair o r then Err (failure Reserved at) else and_then (address w Word g s) (λ p. on_register w p.1 (reg g r) o r p.0)
+
+abbrev pub jump_step : ℕ → World → Regs → Operand → Result Outcome Failure
+jump_step at w g d = and_then (address w Word g d) (λ p. and_then (target at p.0) (λ a. goes_on w (with_reg p.1 Pc a)))
+
+abbrev pub call_step : ℕ → World → Regs → Reg → Operand → Result Outcome Failure
+call_step at w g r d = and_then (address w Word g d) (λ p. and_then (target at p.0) (λ a. call w p.1 r a))
+
 -- the instruction at a place, the registers past its first word
 abbrev pub perform : ℕ → World → Regs → Instr → Result Outcome Failure
-perform at w g (Double o z s d) = and_then (operand w z g s) (λ x. and_then (address w z x.1 d) (λ p. double w p.1 o z x.0 p.0))
-perform at w g (Sum o s d) = and_then (operand w Word g s) (λ x. and_then (address w Word x.1 d) (λ p. sum w p.1 o x.0 p.0))
-perform at w g (Single o z d) = and_then (address w z g d) (λ p. single w p.1 o z p.0)
-perform at w g (OnWord o d) = and_then (address w Word g d) (λ p. on_word w p.1 o p.0)
-perform at w g (OnRegister o r s) =
-    if is_odd_pair o r then Err (failure Reserved at) else and_then (address w Word g s) (λ p. on_register w p.1 (reg g r) o r p.0)
+perform at w g (Double o z s d) = double_step w g o z s d
+perform at w g (Sum o s d) = sum_step w g o s d
+perform at w g (Single o z d) = single_step w g o z d
+perform at w g (OnWord o d) = word_step w g o d
+perform at w g (OnRegister o r s) = register_step at w g o r s
 perform at w g (Branch c n) = goes_on w (branch g (holds g c) n)
 perform at w g (Loop r n) = goes_on w (loop g r n)
-perform at w g (Jump d) = and_then (address w Word g d) (λ p. and_then (target at p.0) (λ a. goes_on w (with_reg p.1 Pc a)))
-perform at w g (Call r d) = and_then (address w Word g d) (λ p. and_then (target at p.0) (λ a. call w p.1 r a))
+perform at w g (Jump d) = jump_step at w g d
+perform at w g (Call r d) = call_step at w g r d
 perform at w g (Return r) = return_by w g r
 perform at w g (Trap n) = trap at w g n
 perform at w g (Flags u n z v c) = goes_on w (marked g u n z v c)

@@ -1,6 +1,6 @@
 // The instructions.
 ghost use Rattle.std.specs.Prelude.{◌≡◌, ◌+◌, ◌-◌, ◌*◌, ◌%◌, ◌<◌, ◌^◌, OnErr, ◌&&◌, nat_le, bit_or, false, if◌then◌else◌};
-ghost use Rattle.pdp_core.specs.Execute.{failure, limit, move as move_of, double, sum, single, single_read, single_end, on_word as on_word_of, on_register, is_odd_pair, left, holds, branch, loop, target, call, return_by, perform as perform_of, plan, ended, execute};
+ghost use Rattle.pdp_core.specs.Execute.{failure, limit, move as move_of, double, sum, single, single_read, single_end, on_word as on_word_of, on_register, is_odd_pair, left, holds, branch, loop, target, call, return_by, double_step, sum_step, single_step, word_step, register_step, jump_step, call_step, perform as perform_of, plan, ended, execute};
 
 use crate::cpu::{Failure, Kind, Place, Regs, Stop};
 use crate::memory::Bus;
@@ -339,43 +339,127 @@ fn ask(at: u16, n: u8) -> Result<Stop, Failure>
     }
 }
 
+/// A source and a destination, of words or bytes.
+fn do_double<B: Bus>(
+    bus: &mut B,
+    regs: &mut Regs,
+    op: DoubleOp,
+    size: Size,
+    s: Operand,
+    d: Operand,
+) -> Result<Stop, Failure>
+    ensures value { double_step (B.world bus.old) regs.old op size s d ≡ ended result regs.new (B.world bus.new) }
+    ensures err { OnErr result (B.world bus.new ≡ B.world bus.old) }
+{
+    let x = value(bus, size, regs, s)?;
+    let place = find(bus, size, regs, d)?;
+    two(bus, regs, op, size, x, place)?;
+    Ok(Stop::Went)
+}
+
+/// A source and a destination, of words alone.
+fn do_sum<B: Bus>(
+    bus: &mut B,
+    regs: &mut Regs,
+    op: SumOp,
+    s: Operand,
+    d: Operand,
+) -> Result<Stop, Failure>
+    ensures value { sum_step (B.world bus.old) regs.old op s d ≡ ended result regs.new (B.world bus.new) }
+    ensures err { OnErr result (B.world bus.new ≡ B.world bus.old) }
+{
+    let x = value(bus, Size::Word, regs, s)?;
+    let place = find(bus, Size::Word, regs, d)?;
+    total(bus, regs, op, x, place)?;
+    Ok(Stop::Went)
+}
+
+/// One operand, of words or bytes.
+fn do_single<B: Bus>(
+    bus: &mut B,
+    regs: &mut Regs,
+    op: SingleOp,
+    size: Size,
+    d: Operand,
+) -> Result<Stop, Failure>
+    ensures value { single_step (B.world bus.old) regs.old op size d ≡ ended result regs.new (B.world bus.new) }
+    ensures err { OnErr result (B.world bus.new ≡ B.world bus.old) }
+{
+    let place = find(bus, size, regs, d)?;
+    one(bus, regs, op, size, place)?;
+    Ok(Stop::Went)
+}
+
+/// One operand, of words alone.
+fn do_word<B: Bus>(bus: &mut B, regs: &mut Regs, op: WordOp, d: Operand) -> Result<Stop, Failure>
+    ensures value { word_step (B.world bus.old) regs.old op d ≡ ended result regs.new (B.world bus.new) }
+    ensures err { OnErr result (B.world bus.new ≡ B.world bus.old) }
+{
+    let place = find(bus, Size::Word, regs, d)?;
+    on_word(bus, regs, op, place)?;
+    Ok(Stop::Went)
+}
+
+/// A register and an operand.
+fn do_register<B: Bus>(
+    bus: &mut B,
+    regs: &mut Regs,
+    at: u16,
+    op: RegisterOp,
+    r: Reg,
+    s: Operand,
+) -> Result<Stop, Failure>
+    ensures value { register_step at (B.world bus.old) regs.old op r s ≡ ended result regs.new (B.world bus.new) }
+    ensures err { OnErr result (B.world bus.new ≡ B.world bus.old) }
+{
+    if has_odd_pair(op, r) {
+        return Err(failed(Kind::Reserved, at));
+    }
+    let before = get(regs, r);
+    let place = find(bus, Size::Word, regs, s)?;
+    with_register(bus, regs, op, r, before, place)?;
+    Ok(Stop::Went)
+}
+
+/// A jump.
+fn do_jump<B: Bus>(bus: &mut B, regs: &mut Regs, at: u16, d: Operand) -> Result<Stop, Failure>
+    ensures value { jump_step at (B.world bus.old) regs.old d ≡ ended result regs.new (B.world bus.new) }
+    ensures err { OnErr result (B.world bus.new ≡ B.world bus.old) }
+{
+    let place = find(bus, Size::Word, regs, d)?;
+    let to = address_of(at, place)?;
+    set(regs, Reg::Pc, to);
+    Ok(Stop::Went)
+}
+
+/// A call of a subroutine.
+fn do_call<B: Bus>(
+    bus: &mut B,
+    regs: &mut Regs,
+    at: u16,
+    r: Reg,
+    d: Operand,
+) -> Result<Stop, Failure>
+    ensures value { call_step at (B.world bus.old) regs.old r d ≡ ended result regs.new (B.world bus.new) }
+    ensures err { OnErr result (B.world bus.new ≡ B.world bus.old) }
+{
+    let place = find(bus, Size::Word, regs, d)?;
+    let to = address_of(at, place)?;
+    enter(bus, regs, r, to)?;
+    Ok(Stop::Went)
+}
+
 /// The instruction at a place, the registers past its first word.
 fn perform<B: Bus>(bus: &mut B, regs: &mut Regs, at: u16, i: Instr) -> Result<Stop, Failure>
     ensures value { perform_of at (B.world bus.old) regs.old i ≡ ended result regs.new (B.world bus.new) }
     ensures err { OnErr result (B.world bus.new ≡ B.world bus.old) }
 {
     match i {
-        Instr::Double(op, size, s, d) => {
-            let x = value(bus, size, regs, s)?;
-            let place = find(bus, size, regs, d)?;
-            two(bus, regs, op, size, x, place)?;
-            Ok(Stop::Went)
-        }
-        Instr::Sum(op, s, d) => {
-            let x = value(bus, Size::Word, regs, s)?;
-            let place = find(bus, Size::Word, regs, d)?;
-            total(bus, regs, op, x, place)?;
-            Ok(Stop::Went)
-        }
-        Instr::Single(op, size, d) => {
-            let place = find(bus, size, regs, d)?;
-            one(bus, regs, op, size, place)?;
-            Ok(Stop::Went)
-        }
-        Instr::OnWord(op, d) => {
-            let place = find(bus, Size::Word, regs, d)?;
-            on_word(bus, regs, op, place)?;
-            Ok(Stop::Went)
-        }
-        Instr::OnRegister(op, r, s) => {
-            if has_odd_pair(op, r) {
-                return Err(failed(Kind::Reserved, at));
-            }
-            let before = get(regs, r);
-            let place = find(bus, Size::Word, regs, s)?;
-            with_register(bus, regs, op, r, before, place)?;
-            Ok(Stop::Went)
-        }
+        Instr::Double(op, size, s, d) => do_double(bus, regs, op, size, s, d),
+        Instr::Sum(op, s, d) => do_sum(bus, regs, op, s, d),
+        Instr::Single(op, size, d) => do_single(bus, regs, op, size, d),
+        Instr::OnWord(op, d) => do_word(bus, regs, op, d),
+        Instr::OnRegister(op, r, s) => do_register(bus, regs, at, op, r, s),
         Instr::Branch(c, n) => {
             take_branch(regs, c, n);
             Ok(Stop::Went)
@@ -384,18 +468,8 @@ fn perform<B: Bus>(bus: &mut B, regs: &mut Regs, at: u16, i: Instr) -> Result<St
             count_down(regs, r, n);
             Ok(Stop::Went)
         }
-        Instr::Jump(d) => {
-            let place = find(bus, Size::Word, regs, d)?;
-            let a = address_of(at, place)?;
-            set(regs, Reg::Pc, a);
-            Ok(Stop::Went)
-        }
-        Instr::Call(r, d) => {
-            let place = find(bus, Size::Word, regs, d)?;
-            let a = address_of(at, place)?;
-            enter(bus, regs, r, a)?;
-            Ok(Stop::Went)
-        }
+        Instr::Jump(d) => do_jump(bus, regs, at, d),
+        Instr::Call(r, d) => do_call(bus, regs, at, r, d),
         Instr::Return(r) => {
             leave(bus, regs, r)?;
             Ok(Stop::Went)

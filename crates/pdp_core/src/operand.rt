@@ -1,6 +1,7 @@
 // Where operands are, and their values.
 ghost use Rattle.std.specs.Prelude.{◌≡◌, ◌<◌, OnErr, IfOk};
 ghost use Rattle.pdp_code.specs.Code.{reg_code};
+ghost use Rattle.rt_words.specs.Word.{wrap_add as sum_of, wrap_sub as difference_of};
 ghost use Rattle.pdp_core.specs.World.{word_written, byte_written};
 ghost use Rattle.pdp_core.specs.Execute.{and_then, of_refused, of_memory, goes_on, limit, reg, with_reg, pointer_reg, stride, fetch, load_word, next_word, address, load, operand, store, paired, left};
 
@@ -111,6 +112,26 @@ pub fn next<B: Bus>(bus: &mut B, regs: &mut Regs) -> Result<u16, Failure>
     Ok(w)
 }
 
+/// Steps a register up, and gives what it was.
+fn step_up(regs: &mut Regs, r: Reg, by: u16) -> u16
+    ensures value { result ≡ reg regs.old r }
+    ensures stepped { regs.new ≡ with_reg regs.old r (sum_of (reg regs.old r) by) }
+{
+    let at = get(regs, r);
+    set(regs, r, wrap_add(at, by));
+    at
+}
+
+/// Steps a register down, and gives what it is then.
+fn step_down(regs: &mut Regs, r: Reg, by: u16) -> u16
+    ensures value { result ≡ difference_of (reg regs.old r) by }
+    ensures stepped { regs.new ≡ with_reg regs.old r (difference_of (reg regs.old r) by) }
+{
+    let at = wrap_sub(get(regs, r), by);
+    set(regs, r, at);
+    at
+}
+
 /// Where an operand is.
 pub fn find<B: Bus>(bus: &mut B, size: Size, regs: &mut Regs, o: Operand) -> Result<Place, Failure>
     ensures value { address (B.world bus.old) size regs.old o ≡ paired result regs.new }
@@ -121,27 +142,16 @@ pub fn find<B: Bus>(bus: &mut B, size: Size, regs: &mut Regs, o: Operand) -> Res
         Operand::Deferred(r) => Ok(Place::InMemory(get(regs, r))),
         Operand::Increment(p) => {
             let r = register_of(p);
-            let a = get(regs, r);
-            set(regs, r, wrap_add(a, stride_of(size, r)));
-            Ok(Place::InMemory(a))
+            Ok(Place::InMemory(step_up(regs, r, stride_of(size, r))))
         }
         Operand::IncrementDeferred(p) => {
-            let r = register_of(p);
-            let b = get(regs, r);
-            let a = word_at(bus, b)?;
-            set(regs, r, wrap_add(b, 2));
-            Ok(Place::InMemory(a))
+            let at = step_up(regs, register_of(p), 2);
+            Ok(Place::InMemory(word_at(bus, at)?))
         }
-        Operand::Decrement(r) => {
-            let a = wrap_sub(get(regs, r), stride_of(size, r));
-            set(regs, r, a);
-            Ok(Place::InMemory(a))
-        }
+        Operand::Decrement(r) => Ok(Place::InMemory(step_down(regs, r, stride_of(size, r)))),
         Operand::DecrementDeferred(r) => {
-            let b = wrap_sub(get(regs, r), 2);
-            let a = word_at(bus, b)?;
-            set(regs, r, b);
-            Ok(Place::InMemory(a))
+            let at = step_down(regs, r, 2);
+            Ok(Place::InMemory(word_at(bus, at)?))
         }
         Operand::Index(r, _) => {
             let x = next(bus, regs)?;
@@ -149,18 +159,14 @@ pub fn find<B: Bus>(bus: &mut B, size: Size, regs: &mut Regs, o: Operand) -> Res
         }
         Operand::IndexDeferred(r, _) => {
             let x = next(bus, regs)?;
-            let a = word_at(bus, wrap_add(x, get(regs, r)))?;
-            Ok(Place::InMemory(a))
+            Ok(Place::InMemory(word_at(bus, wrap_add(x, get(regs, r)))?))
         }
         Operand::Immediate(_) => {
             let at = get(regs, Reg::Pc);
             let w = next(bus, regs)?;
             Ok(Place::InCode(at, w))
         }
-        Operand::Absolute(_) => {
-            let a = next(bus, regs)?;
-            Ok(Place::InMemory(a))
-        }
+        Operand::Absolute(_) => Ok(Place::InMemory(next(bus, regs)?)),
     }
 }
 
