@@ -231,7 +231,8 @@ fn with_two(w: u16, s: Operand, d: Operand) -> ([u16; 3], u8)
     }
 }
 
-/// The words of an instruction, and how many of the three they are.
+/// The words of an instruction, and how many of the three they are, 1 to 3; those past them are 0. A SOB's distance must be
+/// below 64, the range of its field; the types keep all other fields in theirs.
 pub fn encode(i: &Instr) -> ([u16; 3], u8)
     requires { IsCodable i.now }
     ensures words { take result.1 result.0 ≡ words_of i.now }

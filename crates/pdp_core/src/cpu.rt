@@ -1,7 +1,7 @@
 // The registers, the memory behind them, and how an instruction ends.
 use pdp_code::Reg;
 
-/// The registers and the flags.
+/// The registers R0 to R7, of which R6 is the stack pointer and R7 the program counter, and the flags N, Z, V and C.
 #[derive(Debug, Clone, Copy, PartialEq, Eq)]
 pub struct Regs {
     pub r: [u16; 8],
@@ -18,7 +18,8 @@ pub enum Refused {
     Access(u16),
 }
 
-/// The kinds of fault.
+/// The kinds of fault: a word at an odd address; a word outside the instruction table, or a register or number that it
+/// leaves out; an access that the task may not make; a jump to a register.
 #[derive(Debug, Clone, Copy, PartialEq, Eq)]
 pub enum Kind {
     Odd,

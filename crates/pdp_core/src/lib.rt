@@ -1,4 +1,8 @@
-// One instruction of the machine, over any memory.
+//! One instruction of the machine, a PDP-11, over any memory.
+//!
+//! - [`step`]: one instruction, which is the definition `execute` for any [`Bus`].
+//! - [`Bus`]: a memory with the leave that a task has to use it. [`Protection`] says which parts are a task's.
+//! - [`laws`]: what the effects mean for the signed numbers that words stand for.
 #![tactic(auto)]
 
 pub mod cpu;
