@@ -1,18 +1,17 @@
 -- Why a file isn't accepted, in its turn.
-use Rattle.std.proofs.Common.{◌≡◌, ℕ, zero, suc, ◌+◌, ◌<◌, ◌≤◌, List, [], ◌∷◌, length, get_or, Option, Some, None, subst, sym, ap, refl, inl, inr, arith}
-use Rattle.std.specs.Prelude.{◌⊎◌, ◌≢◌}
+use Rattle.std.proofs.Common.{◌≡◌, ℕ, zero, suc, ◌≤◌, List, [], ◌∷◌, Option, subst, sym, inl, inr, arith}
+use Rattle.std.specs.Prelude.{◌⊎◌}
 use Rattle.std.specs.List.{AllByRecursion}
 use Rattle.std.specs.Str.{IsAscii}
 use Rattle.rt_outside.specs.Files.{Files, WhereTold, IsTold, Lacks, HasTooLong}
 use Rattle.rt_first.specs.System.{IsPrintable}
-use Rattle.rt_first.specs.declared.module.FirstModule.{FirstModule}
 use Rattle.rt_first.specs.declared.system.FirstSystem.{FirstSystem}
 use Rattle.rt_top.specs.declared.refusal.Refusal.{Refusal}
-use Rattle.rt_top.specs.declared.refusal.Refusal.TheVariants.{LeftOut, LongModule, BadLine, LongText, NoFile}
+use Rattle.rt_top.specs.declared.refusal.Refusal.TheVariants.{LongModule, LongText, NoFile}
 use Rattle.rt_top.specs.declared.accept.Unaccepted.{Unaccepted}
 use Rattle.rt_top.specs.declared.accept.Unaccepted.TheVariants.{Memory, Refused, Unread}
 use Rattle.rt_top.specs.Words.{Go}
-use Rattle.rt_top.specs.Outcome.{IsFile, HasSystem, HasNoTicks, IsNoSystem, IsNoModule, Refuses, system_missing, system_long, system_bad, ticks_missing, ticks_long, ticks_bad, module_missing, module_long, module_bad, IsInTurn, system_first, then_ticks, then_module}
+use Rattle.rt_top.specs.Outcome.{HasSystem, HasNoTicks, Refuses, system_missing, system_long, ticks_missing, ticks_long, module_missing, module_long, IsInTurn, system_first, then_ticks, then_module}
 use Rattle.rt_words.specs.Causes.{Rose}
 use Rattle.rt_top.proofs.Rises.{wider}
 use Rattle.rt_top.specs.Accepting.{IsUnread, IsRefused, IsRefusalOf}

@@ -1,9 +1,9 @@
 -- Where the task may fetch, read and write, and what it finds there.
-use Rattle.std.proofs.Common.{◌≡◌, ℕ, ◌+◌, ◌*◌, ◌/◌, ◌%◌, ◌<◌, ◌≤◌, Bool, true, false, refl, sym, ◌∙◌, ap, inl, inr, arith}
-use Rattle.std.specs.Prelude.{Ok, ◌==◌, ◌&&◌, ◌||◌, ◌⊎◌, nat_lt, nat_le}
+use Rattle.std.proofs.Common.{◌≡◌, ℕ, ◌+◌, ◌/◌, ◌%◌, ◌<◌, ◌≤◌, Bool, true, false, refl, arith}
+use Rattle.std.specs.Prelude.{Ok, ◌==◌, ◌||◌, ◌⊎◌}
 use Rattle.std.proofs.lemmas.Bool.{lt-ltb, le-leb}
 use Rattle.std.proofs.lemmas.Bool.Decides.{nat_tests}
-use Rattle.pdp_core.specs.World.{World, word_at, put_word, fetched, word_read, word_written}
+use Rattle.pdp_core.specs.World.{word_at, put_word, fetched, word_read, word_written}
 use Rattle.pdp_core.specs.Protection.{protected, usable, within}
 use Rattle.pdp_core.specs.declared.memory.Protection.{Protection}
 

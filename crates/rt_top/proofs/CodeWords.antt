@@ -1,8 +1,7 @@
 -- The words of the code, in the memory and in the image.
-use Rattle.std.proofs.Common.{◌≡◌, ℕ, zero, suc, ◌+◌, ◌*◌, ◌/◌, ◌%◌, ◌<◌, ◌≤◌, List, [], ◌∷◌, ◌++◌, length, get_or, drop, refl, sym, ◌∙◌, ap, subst, arith, length-append}
-use Rattle.std.specs.List.{AllByRecursion}
-use Rattle.rt_top.specs.Image.{word_bytes, words_bytes}
-use Rattle.rt_top.specs.Code.{support, enters, statement_words, body_words, support_marks, enters_marks, statement_marks, body_marks}
+use Rattle.std.proofs.Common.{◌≡◌, ℕ, zero, suc, ◌+◌, ◌*◌, ◌/◌, ◌%◌, ◌<◌, ◌≤◌, List, [], ◌∷◌, ◌++◌, length, get_or, drop, refl, arith}
+use Rattle.rt_top.specs.Image.{words_bytes}
+use Rattle.rt_top.specs.Code.{support, enters, body_words, support_marks, enters_marks, body_marks}
 
 -- the low byte of a word
 pub low_byte : (ws tail : List ℕ) (j : ℕ) → j < length ws → get_or (words_bytes ws ++ tail) (2 * j) 0 ≡ get_or ws j 0 % 256

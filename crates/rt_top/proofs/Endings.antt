@@ -1,10 +1,9 @@
 -- How a call ends, from what its parts did.
-use Rattle.std.proofs.Common.{◌≡◌, ℕ, zero, suc, ◌+◌, ◌*◌, ◌^◌, ◌<◌, ◌≤◌, List, [], ◌∷◌, ◌++◌, length, get_or, drop, Option, Some, None, refl, sym, ap, ◌∙◌, subst, inl, inr, arith, length-append}
-use Rattle.std.specs.Prelude.{◌⊎◌, ◌≢◌, codes}
-use Rattle.std.specs.Io.KnownBytes.{Keeps, Appends}
-use Rattle.std.specs.List.{AllByRecursion}
+use Rattle.std.proofs.Common.{◌≡◌, ℕ, ◌+◌, ◌*◌, ◌^◌, ◌<◌, ◌≤◌, List, [], ◌∷◌, ◌++◌, length, get_or, drop, Option, Some, None, refl, sym, ap, ◌∙◌, subst, inl, inr, arith, length-append}
+use Rattle.std.specs.Prelude.{◌⊎◌, codes}
+use Rattle.std.specs.Io.KnownBytes.{Keeps}
 use Rattle.rt_words.specs.Causes.{Rose}
-use Rattle.rt_outside.specs.Files.{Files, WhereTold, IsTold, Has, ChangesOnly}
+use Rattle.rt_outside.specs.Files.{Files, WhereTold, Has, ChangesOnly}
 use Rattle.rt_first.specs.Pieces.{Piece}
 use Rattle.rt_first.specs.Module.{statement, statements, pieces_of, IsFirstModule}
 use Rattle.rt_first.specs.declared.module.FirstModule.{FirstModule}
@@ -18,12 +17,11 @@ use Rattle.rt_top.specs.declared.refusal.Refusal.TheVariants.{NoFile}
 use Rattle.rt_top.specs.Words.{Go, IsGo, image_name, report_name}
 use Rattle.rt_top.specs.Outcome.{Accepts, Refuses, IsInTurn}
 use Rattle.rt_top.specs.Image.{spelling}
-use Rattle.rt_top.specs.Machine.{State, Reached, At, Over, Faulted, judge, boundary}
-use Rattle.rt_top.specs.Faithful.{Faithful}
+use Rattle.rt_top.specs.Machine.{State, judge}
 use Rattle.rt_top.specs.Code.{Fits, image_of}
 use Rattle.rt_top.specs.Report.{status_of, refusal_text, RunReport, report_of, run_status, report_text}
 use Rattle.rt_top.specs.Running.{state_of_machine, Reaches, machine_report}
-use Rattle.rt_top.specs.Ends.{the_call, Afterwards, LeavesReport, ChangesTwo, States, IsRun, Made, HasImage, Ends, no_memory, refused, unread, unreported, unread_unreported, image_unwritten, output_failed, run_unreported, ran}
+use Rattle.rt_top.specs.Ends.{the_call, Afterwards, ChangesTwo, States, IsRun, Made, Ends, refused, unread, unreported, unread_unreported, output_failed, run_unreported, ran}
 use Rattle.rt_top.proofs.Rises.{wider}
 use Rattle.rt_top.proofs.CodeWords.{length-body_words}
 use Rattle.rt_top.proofs.Joining.{faithful}
@@ -63,8 +61,8 @@ refuse_wrote words g files files2 reads reads1 reads2 writes writes2 written fau
 refuse_wrote words g files files2 reads reads1 reads2 writes writes2 written faults r file go (inr h) has only later =
     let c = the_call files files2 reads reads2 writes writes2 written written faults faults in
     subst (λ x. Ends words c (status_of x)) (sym h.0)
-      (unread g file go h.1 (wider (reads file) (reads file) (reads1 file) (reads2 file) (omega arith) h.2 (later file))
-        (record { report = subst (λ x. Afterwards files files2 (Has (report_name g) (refusal_text x file))) h.0 (after_write files files2 (report_name g) (refusal_text r file) has only); others = only; output = keeps_same written }))
+    (unread g file go h.1 (wider (reads file) (reads file) (reads1 file) (reads2 file) (omega arith) h.2 (later file))
+    (record { report = subst (λ x. Afterwards files files2 (Has (report_name g) (refusal_text x file))) h.0 (after_write files files2 (report_name g) (refusal_text r file) has only); others = only; output = keeps_same written }))
 
 -- and one that wasn't
 pub refuse_failed : (words : List (List ℕ)) (g : Go) (files files2 : Option Files) (reads reads1 reads2 writes writes1 writes2 : List ℕ → ℕ) (written : Option (List ℕ)) (faults : ℕ) (r : Refusal) (file : List ℕ) → IsGo words g →
@@ -74,7 +72,7 @@ refuse_failed words g files files2 reads reads1 reads2 writes writes1 writes2 wr
     unreported g r file go h (wider (writes (report_name g)) (writes1 (report_name g)) (writes2 (report_name g)) (writes2 (report_name g)) (before (report_name g)) rose (omega arith)) only (keeps_same written)
 refuse_failed words g files files2 reads reads1 reads2 writes writes1 writes2 written faults r file go (inr h) rose before only later =
     unread_unreported g file go h.1 (wider (reads file) (reads file) (reads1 file) (reads2 file) (omega arith) h.2 (later file))
-      (wider (writes (report_name g)) (writes1 (report_name g)) (writes2 (report_name g)) (writes2 (report_name g)) (before (report_name g)) rose (omega arith)) only (keeps_same written)
+    (wider (writes (report_name g)) (writes1 (report_name g)) (writes2 (report_name g)) (writes2 (report_name g)) (before (report_name g)) rose (omega arith)) only (keeps_same written)
 
 -- the image's name isn't the report's
 apart : (name : List ℕ) → name ++ codes ".IMG" ≡ name ++ codes ".RPT" → ⊥
@@ -119,19 +117,19 @@ module _ (words : List (List ℕ)) (g : Go) (files : Option Files) (reads reads2
   pub output_fails : (files1 : Option Files) → Fits m → 1 ≤ s.priority → WhereTold files1 (Has (image_name g) (spelling (image_of s m))) → ChangesOnly (image_name g) files files1 → (k : ℕ) (before : Machine) → k ≤ g.limit → Reaches (image_of s m) k before old new → Rose faults faults2 →
       Ends words (the_call files files1 reads reads2 writes writes2 old new faults faults2) 21
   output_fails files1 fits urgent has only k before le r rose =
-      output_failed g s m (image_of s m) k (machine_report before r.out) (made files1 fits urgent) (after_write files files1 (image_name g) (spelling (image_of s m)) has only) only le (is_run (image_of s m) k before old new r) r.put rose
+      output_failed g s m (image_of s m) k (machine_report before r.out) (made files1 fits urgent) (after_write files files1 (image_name g) (spelling (image_of s m)) has only) only le (is_run (image_of s m) k before old new r) refl r.put rose
 
   -- the report of the run failed
   pub report_fails : (files1 files2 : Option Files) (writes1 : List ℕ → ℕ) → Fits m → 1 ≤ s.priority → WhereTold files1 (Has (image_name g) (spelling (image_of s m))) → ChangesOnly (image_name g) files files1 → ChangesOnly (report_name g) files1 files2 → (final : Machine) → Reaches (image_of s m) g.limit final old new → writes (report_name g) ≤ writes1 (report_name g) → Rose (writes1 (report_name g)) (writes2 (report_name g)) →
       Ends words (the_call files files2 reads reads2 writes writes2 old new faults faults2) 21
   report_fails files1 files2 writes1 fits urgent has only then final r before rose =
       let both = two_writes g files files1 files2 (spelling (image_of s m)) has only then in
-      run_unreported g s m (image_of s m) (machine_report final r.out) (made files2 fits urgent) both.1 both.0 (is_run (image_of s m) g.limit final old new r) r.put
-        (wider (writes (report_name g)) (writes1 (report_name g)) (writes2 (report_name g)) (writes2 (report_name g)) before rose (omega arith))
+      run_unreported g s m (image_of s m) (machine_report final r.out) (made files2 fits urgent) both.1 both.0 (is_run (image_of s m) g.limit final old new r) refl r.put
+      (wider (writes (report_name g)) (writes1 (report_name g)) (writes2 (report_name g)) (writes2 (report_name g)) before rose (omega arith))
 
   -- the whole run
   pub runs : (files1 files2 : Option Files) → Fits m → 1 ≤ s.priority → WhereTold files1 (Has (image_name g) (spelling (image_of s m))) → ChangesOnly (image_name g) files files1 → ChangesOnly (report_name g) files1 files2 → (final : Machine) → (r : Reaches (image_of s m) g.limit final old new) → WhereTold files2 (Has (report_name g) (report_text s.task (machine_report final r.out))) →
       Ends words (the_call files files2 reads reads2 writes writes2 old new faults faults2) (run_status final.condition)
   runs files1 files2 fits urgent has only then final r report =
       let both = two_writes g files files1 files2 (spelling (image_of s m)) has only then in
-      ran g s m (image_of s m) (machine_report final r.out) (made files2 fits urgent) both.1 both.0 (report_left g files files1 files2 (report_text s.task (machine_report final r.out)) only then report) (is_run (image_of s m) g.limit final old new r) r.put
+      ran g s m (image_of s m) (machine_report final r.out) (made files2 fits urgent) both.1 both.0 (report_left g files files1 files2 (report_text s.task (machine_report final r.out)) only then report) (is_run (image_of s m) g.limit final old new r) refl r.put

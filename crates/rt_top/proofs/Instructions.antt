@@ -1,6 +1,6 @@
 -- What the four instructions of this form do, by what the memory has at PC.
-use Rattle.std.proofs.Common.{◌≡◌, ℕ, ◌+◌, List, [], ◌∷◌, Bool, true, false, refl}
-use Rattle.std.specs.Prelude.{Ok, ◌==◌}
+use Rattle.std.proofs.Common.{◌≡◌, ℕ, [], ◌∷◌, Bool, false, refl}
+use Rattle.std.specs.Prelude.{Ok}
 use Rattle.rt_words.specs.Word.{wrap_add, wrap_sub}
 use Rattle.pdp_core.specs.World.{World, fetched, word_read, word_written}
 use Rattle.pdp_core.specs.Execute.{execute, by_value}

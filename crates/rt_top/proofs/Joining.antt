@@ -1,5 +1,5 @@
 -- The image that is made of a module is faithful to it: the picture holds at every boundary.
-use Rattle.std.proofs.Common.{◌≡◌, ℕ, zero, suc, ◌+◌, ◌*◌, ◌<◌, ◌≤◌, ◌%◌, Bool, false, lit≤, add-zero, List, [], ◌∷◌, ◌++◌, length, get_or, refl, sym, ◌∙◌, ap, subst, inl, inr, arith}
+use Rattle.std.proofs.Common.{◌≡◌, ℕ, zero, suc, ◌+◌, ◌*◌, ◌<◌, ◌≤◌, false, lit≤, add-zero, List, [], ◌∷◌, ◌++◌, length, get_or, refl, sym, ◌∙◌, ap, subst, inl, inr, arith}
 use Rattle.std.specs.Prelude.{◌⊎◌}
 use Rattle.std.specs.List.{AllByRecursion}
 use Rattle.std.proofs.lemmas.List.{get_or-append-add}
@@ -11,7 +11,7 @@ use Rattle.rt_top.specs.Source.{Control, CallsRoot, InRoot, InRrout, HasPut, Has
 use Rattle.rt_top.specs.Image.{InRanges, IsMark, block_at, brick_at, brick_end, words_bytes}
 use Rattle.rt_top.specs.Machine.{State, Reached, At, Over, Faulted, sp, go, onward, start, boundary}
 use Rattle.rt_top.specs.Faithful.{Holds, Same, Meets, Faithful, block_words, quiet}
-use Rattle.rt_top.specs.Code.{Fits, image_of, code_of, marks_of, body_marks}
+use Rattle.rt_top.specs.Code.{Fits, image_of, code_of, body_marks}
 use Rattle.rt_top.proofs.CodeWords.{length-words_bytes, length-body_marks}
 use Rattle.rt_top.proofs.Picture as picture
 
@@ -37,6 +37,7 @@ module _ (s : FirstSystem) (m : FirstModule) where
       in_root [] is r (inr p) = absurd p
       in_root (b ∷ cs) is r (inl p) = picture.loads s m input fits state j b cs is r p.0 p.1
       in_root (b ∷ cs) is r (inr p) = picture.calls_rrout s m input fits state j b cs is r p.0 p.1
+
       by : (k : Control) → j.source_state.control ≡ k → picture.JoinedAt s m input (go (image_of s m) state)
       by (CallsRoot cs) is = picture.enters_root s m input fits state j cs is
       by (InRoot cs) is =
@@ -57,7 +58,13 @@ module _ (s : FirstSystem) (m : FirstModule) where
   starts : (input : List ℕ) → picture.Joined s m input (start (image_of s m))
   starts input = record {
     mem = λ a. get_or (words_bytes (code_of m) ++ ([] ++ words_bytes (block_words start_data))) a 0;
-    r0 = 0; sp = brick_end (image_of s m); at = 10; n = false; z = false; v = false; c = false;
+    r0 = 0;
+    sp = brick_end (image_of s m);
+    at = 10;
+    n = false;
+    z = false;
+    v = false;
+    c = false;
     world_is = refl;
     regs_are = refl;
     intact = λ a below. refl;

@@ -9,3 +9,4 @@ pub mod Lists
 pub mod Rises
 pub mod Accepts
 pub mod Endings
+pub mod Clauses

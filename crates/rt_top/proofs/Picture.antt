@@ -1,9 +1,9 @@
 -- The picture: where the machine stands for each place of the source, and that each instruction keeps it.
-use Rattle.std.proofs.Common.{◌≡◌, ℕ, zero, suc, ◌+◌, ◌*◌, ◌/◌, ◌%◌, ◌<◌, ◌≤◌, Bool, true, false, List, [], ◌∷◌, ◌++◌, length, get_or, drop, add-zero, refl, sym, ◌∙◌, ap, subst, inl, inr, arith}
-use Rattle.std.specs.Prelude.{Ok, Some, ◌==◌, ◌⊎◌, if◌then◌else◌}
+use Rattle.std.proofs.Common.{◌≡◌, ℕ, zero, suc, ◌+◌, ◌*◌, ◌/◌, ◌%◌, ◌<◌, ◌≤◌, Bool, false, List, [], ◌∷◌, ◌++◌, length, get_or, drop, add-zero, refl, sym, ◌∙◌, ap, subst, inl, inr, arith}
+use Rattle.std.specs.Prelude.{Ok, Some, ◌==◌, ◌⊎◌}
 use Rattle.std.specs.List.{AllByRecursion}
 use Rattle.rt_words.specs.Word.{wrap_add, wrap_sub}
-use Rattle.pdp_core.specs.World.{World, word_at, put_word, fetched, word_read, word_written}
+use Rattle.pdp_core.specs.World.{World, word_at, put_word, fetched, word_written}
 use Rattle.pdp_core.specs.Protection.{protected}
 use Rattle.pdp_core.specs.Execute.{execute, by_value, negative}
 use Rattle.pdp_code.specs.declared.Size.TheVariants.{Word}
@@ -14,12 +14,12 @@ use Rattle.rt_first.specs.declared.system.FirstSystem.{FirstSystem}
 use Rattle.rt_top.specs.declared.condition.Condition.{Condition}
 use Rattle.rt_top.specs.declared.condition.Condition.TheVariants.{Ready, Ended}
 use Rattle.rt_top.specs.declared.image.Image.{Image}
-use Rattle.rt_top.specs.Console.{Outside, Request, Nothing, Puts, Ends, serve}
+use Rattle.rt_top.specs.Console.{Request, Nothing, Puts, Ends, serve}
 use Rattle.rt_top.specs.Source.{Call, Return, Service, Control, CallsRoot, InRoot, InRrout, HasPut, HasReturned, HasEnded, SourceState, After, start_data, next, after, source}
 use Rattle.rt_top.specs.Image.{code_end, block_at, brick_at, brick_end, memory_bytes, protection, words_bytes}
 use Rattle.rt_top.specs.Machine.{State, Reached, At, Over, Faulted, steps, mark_at, pc, service, served, go, judge, boundary_at}
 use Rattle.rt_top.specs.Faithful.{quiet, block_words}
-use Rattle.rt_top.specs.Code.{Fits, image_of, code_of, marks_of, body_words, body_marks}
+use Rattle.rt_top.specs.Code.{Fits, image_of, code_of, body_words, body_marks}
 use Rattle.rt_top.proofs.Instructions.{regs_of, mov, jsr, rts, trap_put, trap_end}
 use Rattle.rt_top.proofs.Access.{fetch_ok, read_ok, write_ok, put_apart, word_put, word_agrees, word_of_bytes}
 use Rattle.rt_top.proofs.CodeWords.{low_byte, high_byte, length-body_words, body_word, body_mark, behind_entry, behind_entry_marks}
@@ -193,13 +193,20 @@ module _ (s : FirstSystem) (m : FirstModule) (input : List ℕ) where
       let p : Pushed j.mem sp2 14 = push fits j.mem j.intact sp2 14 (omega (arith, two, b.top)) (omega (arith, two, b.top, b.low, least)) (omega (arith, two)) (omega arith) in
       let regs : state.regs ≡ regs_of (block_at image) j.r0 j.sp 10 j.n j.z j.v j.c = j.regs_are ∙ ap (λ a. regs_of (block_at image) j.r0 j.sp a j.n j.z j.v j.c) st.1 in
       let made = went state (world (put_word j.mem sp2 14)) (regs_of (block_at image) j.r0 j.sp 10 j.n j.z j.v j.c) (regs_of (block_at image) j.r0 sp2 16 j.n j.z j.v j.c) (world j.mem) 1 j.world_is regs
-          (jsr (world j.mem) (world (put_word j.mem sp2 14)) (block_at image) j.r0 j.sp 10 16 j.n j.z j.v j.c
-            (fetch_word fits j.mem j.intact 10 5 0o4737 refl (omega (arith, len)) refl (omega arith))
-            (fetch_word fits j.mem j.intact 12 6 16 refl (omega (arith, len)) refl (omega arith))
-            p.written)
-          refl in
+      (jsr (world j.mem) (world (put_word j.mem sp2 14)) (block_at image) j.r0 j.sp 10 16 j.n j.z j.v j.c
+      (fetch_word fits j.mem j.intact 10 5 0o4737 refl (omega (arith, len)) refl (omega arith))
+      (fetch_word fits j.mem j.intact 12 6 16 refl (omega (arith, len)) refl (omega arith))
+      p.written)
+      refl in
       subst JoinedAt (sym made) (at_boundary _ (record {
-        mem = put_word j.mem sp2 14; r0 = j.r0; sp = sp2; at = 16; n = j.n; z = j.z; v = j.v; c = j.c;
+        mem = put_word j.mem sp2 14;
+        r0 = j.r0;
+        sp = sp2;
+        at = 16;
+        n = j.n;
+        z = j.z;
+        v = j.v;
+        c = j.c;
         world_is = refl;
         regs_are = refl;
         intact = p.intact;
@@ -227,12 +234,19 @@ module _ (s : FirstSystem) (m : FirstModule) (input : List ℕ) where
       let next_at : wrap_add a 2 ≡ 18 + 8 * i = omega (arith, place, more.0, few) in
       let last_at : wrap_add (wrap_add a 2) 2 ≡ 20 + 8 * i = omega (arith, next_at, more.0, few) in
       let made = went state (world j.mem) (regs_of (block_at image) j.r0 j.sp a j.n j.z j.v j.c) (by_value (regs_of (block_at image) b j.sp (wrap_add (wrap_add a 2) 2) j.n j.z j.v j.c) Word b false j.c) (world j.mem) 0 j.world_is j.regs_are
-          (mov (world j.mem) (block_at image) j.r0 j.sp a b j.n j.z j.v j.c
-            (fetch_word fits j.mem j.intact a (8 + (4 * i + 0)) 0o12700 (omega (arith, place)) (omega (arith, len, more.0)) (root_word i 0 (b ∷ cs) r.within r.left) (omega arith))
-            (fetch_word fits j.mem j.intact (wrap_add a 2) (8 + (4 * i + 1)) b (omega (arith, next_at)) (omega (arith, len, more.0)) (root_word i 1 (b ∷ cs) r.within r.left) (omega (arith, small))))
-          (root_mark a i 0 (b ∷ cs) (omega (arith, place)) r.within r.left) in
+      (mov (world j.mem) (block_at image) j.r0 j.sp a b j.n j.z j.v j.c
+      (fetch_word fits j.mem j.intact a (8 + (4 * i + 0)) 0o12700 (omega (arith, place)) (omega (arith, len, more.0)) (root_word i 0 (b ∷ cs) r.within r.left) (omega arith))
+      (fetch_word fits j.mem j.intact (wrap_add a 2) (8 + (4 * i + 1)) b (omega (arith, next_at)) (omega (arith, len, more.0)) (root_word i 1 (b ∷ cs) r.within r.left) (omega (arith, small))))
+      (root_mark a i 0 (b ∷ cs) (omega (arith, place)) r.within r.left) in
       subst JoinedAt (sym made) (at_boundary _ (record {
-        mem = j.mem; r0 = b; sp = j.sp; at = wrap_add (wrap_add a 2) 2; n = negative Word b; z = b == 0; v = false; c = j.c;
+        mem = j.mem;
+        r0 = b;
+        sp = j.sp;
+        at = wrap_add (wrap_add a 2) 2;
+        n = negative Word b;
+        z = b == 0;
+        v = false;
+        c = j.c;
         world_is = refl;
         regs_are = refl;
         intact = j.intact;
@@ -262,17 +276,24 @@ module _ (s : FirstSystem) (m : FirstModule) (input : List ℕ) where
       let two : sp2 + 2 ≡ j.sp = omega (arith, r.stack, bo.top, few, most) in
       let p : Pushed j.mem sp2 (wrap_add (wrap_add a 2) 2) = push fits j.mem j.intact sp2 (wrap_add (wrap_add a 2) 2) (omega (arith, two, r.stack, bo.top)) (omega (arith, two, r.stack, bo.top, bo.low, least)) (omega (arith, two, r.stack)) (omega arith) in
       let below : word_at (put_word j.mem sp2 (wrap_add (wrap_add a 2) 2)) (sp2 + 2) ≡ 14 =
-          word_agrees j.mem (put_word j.mem sp2 (wrap_add (wrap_add a 2) 2)) (sp2 + 2) (put_apart j.mem sp2 (wrap_add (wrap_add a 2) 2) (sp2 + 2) (inr (omega arith))) (put_apart j.mem sp2 (wrap_add (wrap_add a 2) 2) (sp2 + 2 + 1) (inr (omega arith)))
-          ∙ ap (word_at j.mem) two ∙ r.back in
+      word_agrees j.mem (put_word j.mem sp2 (wrap_add (wrap_add a 2) 2)) (sp2 + 2) (put_apart j.mem sp2 (wrap_add (wrap_add a 2) 2) (sp2 + 2) (inr (omega arith))) (put_apart j.mem sp2 (wrap_add (wrap_add a 2) 2) (sp2 + 2 + 1) (inr (omega arith)))
+      ∙ ap (word_at j.mem) two ∙ r.back in
       let made = went state (world (put_word j.mem sp2 (wrap_add (wrap_add a 2) 2))) (regs_of (block_at image) j.r0 j.sp a j.n j.z j.v j.c) (regs_of (block_at image) j.r0 sp2 4 j.n j.z j.v j.c) (world j.mem) 1 j.world_is j.regs_are
-          (jsr (world j.mem) (world (put_word j.mem sp2 (wrap_add (wrap_add a 2) 2))) (block_at image) j.r0 j.sp a 4 j.n j.z j.v j.c
-            (fetch_word fits j.mem j.intact a (8 + (4 * i + 2)) 0o4737 (omega (arith, place)) (omega (arith, len, more.0)) (root_word i 2 (b ∷ cs) r.within r.left) (omega arith))
-            (fetch_word fits j.mem j.intact (wrap_add a 2) (8 + (4 * i + 3)) 4 (omega (arith, next_at)) (omega (arith, len, more.0)) (root_word i 3 (b ∷ cs) r.within r.left) (omega arith))
-            p.written)
-          (root_mark a i 2 (b ∷ cs) (omega (arith, place)) r.within r.left) in
+      (jsr (world j.mem) (world (put_word j.mem sp2 (wrap_add (wrap_add a 2) 2))) (block_at image) j.r0 j.sp a 4 j.n j.z j.v j.c
+      (fetch_word fits j.mem j.intact a (8 + (4 * i + 2)) 0o4737 (omega (arith, place)) (omega (arith, len, more.0)) (root_word i 2 (b ∷ cs) r.within r.left) (omega arith))
+      (fetch_word fits j.mem j.intact (wrap_add a 2) (8 + (4 * i + 3)) 4 (omega (arith, next_at)) (omega (arith, len, more.0)) (root_word i 3 (b ∷ cs) r.within r.left) (omega arith))
+      p.written)
+      (root_mark a i 2 (b ∷ cs) (omega (arith, place)) r.within r.left) in
       let byte : j.r0 % 256 ≡ b = omega (arith, loaded, small) in
       subst JoinedAt (sym made) (at_boundary _ (record {
-        mem = put_word j.mem sp2 (wrap_add (wrap_add a 2) 2); r0 = j.r0; sp = sp2; at = 4; n = j.n; z = j.z; v = j.v; c = j.c;
+        mem = put_word j.mem sp2 (wrap_add (wrap_add a 2) 2);
+        r0 = j.r0;
+        sp = sp2;
+        at = 4;
+        n = j.n;
+        z = j.z;
+        v = j.v;
+        c = j.c;
         world_is = refl;
         regs_are = refl;
         intact = p.intact;
@@ -292,10 +313,10 @@ module _ (s : FirstSystem) (m : FirstModule) (input : List ℕ) where
       let few = fits.few in
       let most = fits.most in
       went state (world j.mem) (regs_of (block_at image) j.r0 j.sp a j.n j.z j.v j.c) (regs_of (block_at image) j.r0 (wrap_add j.sp 2) to j.n j.z j.v j.c) (world j.mem) 1 j.world_is (at_pc state j a at)
-        (rts (world j.mem) (block_at image) j.r0 j.sp a to j.n j.z j.v j.c
-          (fetch_word fits j.mem j.intact a j2 0o207 half within is (omega arith))
-          (read_ok (protection image) j.mem j.sp even low (omega (arith, high)) (omega (arith, high, len, few, most)) ∙ ap (λ w. Ok w) top))
-        mark
+      (rts (world j.mem) (block_at image) j.r0 j.sp a to j.n j.z j.v j.c
+      (fetch_word fits j.mem j.intact a j2 0o207 half within is (omega arith))
+      (read_ok (protection image) j.mem j.sp even low (omega (arith, high)) (omega (arith, high, len, few, most)) ∙ ap (λ w. Ok w) top))
+      mark
 
   -- the RTS of the root
   pub root_returns : Fits m → (state : State) (j : Joined state) → j.source_state.control ≡ InRoot [] → (r : InRootAt j.mem j.r0 j.sp j.at (quiet state.made) []) → j.at ≡ 16 + 8 * r.index → JoinedAt (go image state)
@@ -308,7 +329,14 @@ module _ (s : FirstSystem) (m : FirstModule) (input : List ℕ) where
       let bo = bounds in
       let made = returns fits state j (8 + (4 * i + 0)) 14 j.at refl (omega (arith, place)) (omega (arith, len, r.within)) (root_word i 0 [] r.within r.left) (root_mark j.at i 0 [] (omega (arith, place)) r.within r.left) r.back (omega (arith, r.stack, bo.top)) (omega (arith, r.stack, bo.top, bo.low, least)) (omega (arith, r.stack)) in
       subst JoinedAt (sym made) (at_boundary _ (record {
-        mem = j.mem; r0 = j.r0; sp = wrap_add j.sp 2; at = 14; n = j.n; z = j.z; v = j.v; c = j.c;
+        mem = j.mem;
+        r0 = j.r0;
+        sp = wrap_add j.sp 2;
+        at = 14;
+        n = j.n;
+        z = j.z;
+        v = j.v;
+        c = j.c;
         world_is = refl;
         regs_are = refl;
         intact = j.intact;
@@ -331,7 +359,14 @@ module _ (s : FirstSystem) (m : FirstModule) (input : List ℕ) where
       let up : wrap_add j.sp 2 ≡ j.sp + 2 = omega (arith, r.stack, bo.top, few, most) in
       let made = returns fits state j 3 (16 + 8 * r.index) 6 place refl (omega (arith, len)) refl refl r.back (omega (arith, r.stack, bo.top)) (omega (arith, r.stack, bo.top, bo.low, least)) (omega (arith, r.stack)) in
       subst JoinedAt (sym made) (at_boundary _ (record {
-        mem = j.mem; r0 = j.r0; sp = wrap_add j.sp 2; at = 16 + 8 * r.index; n = j.n; z = j.z; v = j.v; c = j.c;
+        mem = j.mem;
+        r0 = j.r0;
+        sp = wrap_add j.sp 2;
+        at = 16 + 8 * r.index;
+        n = j.n;
+        z = j.z;
+        v = j.v;
+        c = j.c;
         world_is = refl;
         regs_are = refl;
         intact = j.intact;
@@ -353,10 +388,17 @@ module _ (s : FirstSystem) (m : FirstModule) (input : List ℕ) where
   puts fits state j b cs is r place byte =
       let len = length-code in
       let made = trapped state (world j.mem) (regs_of (block_at image) j.r0 j.sp 4 j.n j.z j.v j.c) (regs_of (block_at image) j.r0 j.sp 6 j.n j.z j.v j.c) 2 1 (Puts b) j.world_is (at_pc state j 4 place)
-          (trap_put (world j.mem) (block_at image) j.r0 j.sp 4 j.n j.z j.v j.c (fetch_word fits j.mem j.intact 4 2 0o104402 refl (omega (arith, len)) refl (omega arith)))
-          refl (ap (λ x. Some (Puts x)) byte) in
+      (trap_put (world j.mem) (block_at image) j.r0 j.sp 4 j.n j.z j.v j.c (fetch_word fits j.mem j.intact 4 2 0o104402 refl (omega (arith, len)) refl (omega arith)))
+      refl (ap (λ x. Some (Puts x)) byte) in
       subst JoinedAt (sym made) (at_boundary _ (record {
-        mem = j.mem; r0 = j.r0; sp = j.sp; at = 6; n = j.n; z = j.z; v = j.v; c = j.c;
+        mem = j.mem;
+        r0 = j.r0;
+        sp = j.sp;
+        at = 6;
+        n = j.n;
+        z = j.z;
+        v = j.v;
+        c = j.c;
         world_is = refl;
         regs_are = refl;
         intact = j.intact;
@@ -373,10 +415,17 @@ module _ (s : FirstSystem) (m : FirstModule) (input : List ℕ) where
   ends fits state j is place stack =
       let len = length-code in
       let made = trapped state (world j.mem) (regs_of (block_at image) j.r0 j.sp 14 j.n j.z j.v j.c) (regs_of (block_at image) j.r0 j.sp 16 j.n j.z j.v j.c) 11 1 Ends j.world_is (at_pc state j 14 place)
-          (trap_end (world j.mem) (block_at image) j.r0 j.sp 14 j.n j.z j.v j.c (fetch_word fits j.mem j.intact 14 7 0o104413 refl (omega (arith, len)) refl (omega arith)))
-          refl refl in
+      (trap_end (world j.mem) (block_at image) j.r0 j.sp 14 j.n j.z j.v j.c (fetch_word fits j.mem j.intact 14 7 0o104413 refl (omega (arith, len)) refl (omega arith)))
+      refl refl in
       subst JoinedAt (sym made) (at_boundary _ (record {
-        mem = j.mem; r0 = j.r0; sp = j.sp; at = 16; n = j.n; z = j.z; v = j.v; c = j.c;
+        mem = j.mem;
+        r0 = j.r0;
+        sp = j.sp;
+        at = 16;
+        n = j.n;
+        z = j.z;
+        v = j.v;
+        c = j.c;
         world_is = refl;
         regs_are = refl;
         intact = j.intact;

@@ -1,21 +1,18 @@
 -- The machine of the code makes the machine run.
-use Rattle.std.proofs.Common.{◌≡◌, ℕ, zero, suc, ◌+◌, ◌*◌, ◌-◌, ◌<◌, ◌≤◌, Bool, true, false, List, [], ◌∷◌, ◌++◌, length, get_or, Option, Some, None, refl, sym, ap, ◌∙◌, subst, inl, inr, arith, append_assoc, append-nil, length-append}
+use Rattle.std.proofs.Common.{◌≡◌, ℕ, zero, suc, ◌+◌, ◌-◌, ◌≤◌, true, false, List, [], ◌∷◌, ◌++◌, length, get_or, Option, Some, None, refl, sym, ap, ◌∙◌, subst, inl, inr, arith, append_assoc, append-nil, length-append}
 use Rattle.std.specs.Prelude.{◌⊎◌, ◌==◌}
 use Rattle.std.specs.Io.KnownBytes.{Keeps, Appends}
 use Rattle.std.proofs.lemmas.Bool.Decides.{eqb_tells}
 use Rattle.std.proofs.Math.Path.{fun_ext}
 use Rattle.pdp_core.specs.Execute.{Outcome, execute}
-use Rattle.pdp_core.specs.declared.cpu.Stop.TheVariants.{Went, Trap, Fault}
+use Rattle.pdp_core.specs.declared.cpu.Stop.TheVariants.{Trap}
 use Rattle.pdp_plain.specs.declared.FlatBus.{FlatBus}
-use Rattle.pdp_core.specs.declared.memory.Protection.{Protection}
-use Rattle.rt_top.specs.declared.condition.Condition.{Condition}
 use Rattle.rt_top.specs.declared.condition.Condition.TheVariants.{Ready, Ended}
 use Rattle.rt_top.specs.declared.image.Image.{Image}
 use Rattle.rt_top.specs.declared.machine.Machine.{Machine}
 use Rattle.rt_top.specs.declared.machine.Asked.{Asked}
-use Rattle.rt_top.specs.declared.machine.Asked.TheVariants as asked
-use Rattle.rt_top.specs.Image.{memory_bytes, words_bytes, code_end, block_at, brick_at, brick_end, protection, InRanges}
-use Rattle.rt_top.specs.Machine.{State, Reached, At, Over, Faulted, mark_of, pc, argument, service, served, judge, boundary_at, go, onward, boundary, start, start_world, steps_of}
+use Rattle.rt_top.specs.Image.{memory_bytes, words_bytes, brick_at, protection}
+use Rattle.rt_top.specs.Machine.{State, Reached, Over, Faulted, mark_of, pc, service, served, judge, boundary_at, go, onward, boundary, start, start_world}
 use Rattle.rt_top.specs.Running.{state_of_machine, world_of, Does, asks, condition_after, Reaches}
 use Rattle.rt_top.proofs.CodeWords.{length-words_bytes}
 
@@ -89,7 +86,11 @@ appends_nothing (Some x) = sym (append-nil x)
 -- the run so far, and one more instruction
 pub reaches_start : (image : Image) (m : Machine) (old : Option (List ℕ)) → m.instructions ≡ 0 → m.steps ≡ 0 → state_of_machine m [] [] ≡ start image → Reaches image 0 m old old
 reaches_start image m old e f g = record {
-  made = []; out = []; count = sym e; steps = sym f; put = appends_nothing old;
+  made = [];
+  out = [];
+  count = sym e;
+  steps = sym f;
+  put = appends_nothing old;
   reached = λ input. ap boundary_at (sym g);
 }
 
@@ -104,7 +105,11 @@ reaches_went image k m new old now mark ready r does ei es =
     let c = r.count in
     let st = r.steps in
     record {
-      made = mark ∷ r.made; out = r.out; count = omega (arith, c, ei); steps = omega (arith, st, es); put = r.put;
+      made = mark ∷ r.made;
+      out = r.out;
+      count = omega (arith, c, ei);
+      steps = omega (arith, st, es);
+      put = r.put;
       reached = λ input. next_boundary image input k m r.out r.made ready (r.reached input) ∙ does r.out r.made;
     }
 
@@ -113,14 +118,22 @@ reaches_puts image k m new old now then mark b ready r does ei es put =
     let c = r.count in
     let st = r.steps in
     record {
-      made = mark ∷ r.made; out = r.out ++ b ∷ []; count = omega (arith, c, ei); steps = omega (arith, st, es); put = appends_both old now then r.out (b ∷ []) r.put put;
+      made = mark ∷ r.made;
+      out = r.out ++ b ∷ [];
+      count = omega (arith, c, ei);
+      steps = omega (arith, st, es);
+      put = appends_both old now then r.out (b ∷ []) r.put put;
       reached = λ input. next_boundary image input k m r.out r.made ready (r.reached input) ∙ does r.out r.made;
     }
 
 -- a run that has ended has reached its limit
 pub reaches_limit : (image : Image) (k limit : ℕ) (m : Machine) (old now : Option (List ℕ)) → m.condition ≡ Ended → k ≤ limit → Reaches image k m old now → Reaches image limit m old now
 reaches_limit image k limit m old now ended h r = record {
-  made = r.made; out = r.out; count = r.count; steps = r.steps; put = r.put;
+  made = r.made;
+  out = r.out;
+  count = r.count;
+  steps = r.steps;
+  put = r.put;
   reached = λ input.
       let s = state_of_machine m r.out r.made in
       let n : limit ≡ limit - k + k = omega (arith, h) in
@@ -134,6 +147,9 @@ reaches_failed image k m old now then r keeps = record { made = r.made; out = r.
 
 -- a fault
 pub reaches_fault : (image : Image) (k limit : ℕ) (m : Machine) (old now : Option (List ℕ)) → m.condition ≡ Ready → k + 1 ≤ limit → (r : Reaches image k m old now) → ((out made : List ℕ) → go image (state_of_machine m out made) ≡ Faulted (state_of_machine m out made)) → (s : State) × ((input : List ℕ) → boundary image input limit ≡ Faulted s)
-reaches_fault image k limit m old now ready h r does = (state_of_machine m r.out r.made, λ input.
-    let n : limit ≡ limit - (k + 1) + (k + 1) = omega (arith, h) in
-    ap (boundary image input) n ∙ fault_stays image input (state_of_machine m r.out r.made) (k + 1) (limit - (k + 1)) (next_boundary image input k m r.out r.made ready (r.reached input) ∙ does r.out r.made))
+reaches_fault image k limit m old now ready h r does = (
+  state_of_machine m r.out r.made,
+  λ input.
+      let n : limit ≡ limit - (k + 1) + (k + 1) = omega (arith, h) in
+      ap (boundary image input) n ∙ fault_stays image input (state_of_machine m r.out r.made) (k + 1) (limit - (k + 1)) (next_boundary image input k m r.out r.made ready (r.reached input) ∙ does r.out r.made),
+)

@@ -11,8 +11,8 @@ pub record Outside : Type 0 where
 -- what a visible step, or an instruction, asks of the supervisor
 pub data Request : Type 0 where
   Nothing : Request
-  Puts : (byte : ℕ) → Request -- RROUT: the byte goes to the console
-  Ends : Request -- the task ends
+  Puts : (byte : ℕ) → Request  -- RROUT: the byte goes to the console
+  Ends : Request  -- the task ends
 
 -- at the start the task is ready, and nothing is put or taken
 abbrev pub start_outside : Outside

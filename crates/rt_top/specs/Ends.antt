@@ -1,18 +1,17 @@
 -- How a call of `top` ends: each answer with its cause, and what stands then.
-use Rattle.std.specs.Prelude.{ℕ, ◌≡◌, ◌≢◌, ◌≤◌, List, [], ◌∷◌, ◌++◌, Option, Some, None}
+use Rattle.std.specs.Prelude.{ℕ, ◌≡◌, ◌≢◌, ◌≤◌, List, [], ◌++◌, Option, Some, None}
 use Rattle.std.specs.Io.KnownBytes.{Keeps, Appends}
 use Rattle.rt_words.specs.Causes.{Rose}
 use Rattle.rt_outside.specs.Files.{Files, IsTold, Has, ChangesOnly}
 use Rattle.rt_first.specs.declared.module.FirstModule.{FirstModule}
 use Rattle.rt_first.specs.declared.system.FirstSystem.{FirstSystem}
-use Rattle.rt_top.specs.declared.condition.Condition.{Condition}
 use Rattle.rt_top.specs.declared.image.Image.{Image}
 use Rattle.rt_top.specs.declared.refusal.Refusal.{Refusal}
 use Rattle.rt_top.specs.declared.refusal.Refusal.TheVariants.{NoFile}
 use Rattle.rt_top.specs.Words.{Go, IsGo, IsNoCommand, image_name, report_name}
 use Rattle.rt_top.specs.Outcome.{Accepts, Refuses, IsInTurn}
 use Rattle.rt_top.specs.Image.{spelling}
-use Rattle.rt_top.specs.Machine.{State, Reached, At, Over, Faulted, boundary, state_of}
+use Rattle.rt_top.specs.Machine.{Reached, At, Over, Faulted, boundary}
 use Rattle.rt_top.specs.Faithful.{Faithful}
 use Rattle.rt_top.specs.Report.{status_of, words_line, refusal_text, RunReport, report_of, run_status, report_text}
 
@@ -31,8 +30,16 @@ pub record Call : Type 0 where
 
 abbrev pub the_call : Option Files → Option Files → (List ℕ → ℕ) → (List ℕ → ℕ) → (List ℕ → ℕ) → (List ℕ → ℕ) → Option (List ℕ) → Option (List ℕ) → ℕ → ℕ → Call
 the_call files files2 reads reads2 writes writes2 written written2 faults faults2 = record {
-  files = files; files_after = files2; reads = reads; reads_after = reads2; writes = writes; writes_after = writes2;
-  written = written; written_after = written2; faults = faults; faults_after = faults2;
+  files = files;
+  files_after = files2;
+  reads = reads;
+  reads_after = reads2;
+  writes = writes;
+  writes_after = writes2;
+  written = written;
+  written_after = written2;
+  faults = faults;
+  faults_after = faults2;
 }
 
 -- a proper start of the text was appended
@@ -69,6 +76,10 @@ States (Faulted s) r = ⊥
 abbrev pub IsRun : Image → ℕ → RunReport → Type 0
 IsRun image limit r = (input : List ℕ) → States (boundary image input limit) r
 
+-- the run takes nothing of the input
+abbrev pub TakesNothing : RunReport → Type 0
+TakesNothing r = r.taken ≡ 0
+
 -- the words are those of `go`, the texts are accepted, and the image is faithful to the module
 pub record Made (words : List (List ℕ)) (c : Call) (g : Go) (s : FirstSystem) (m : FirstModule) (image : Image) : Type 0 where
   pub words_are : IsGo words g
@@ -97,8 +108,8 @@ pub data Ends (words : List (List ℕ)) (c : Call) : ℕ → Type 0 where
   -- the image can't be written: nothing follows
   image_unwritten : (g : Go) (s : FirstSystem) (m : FirstModule) → IsGo words g → Accepts c.files g s m → Rose (c.writes (image_name g)) (c.writes_after (image_name g)) → ChangesOnly (image_name g) c.files c.files_after → Keeps c.written c.written_after → Ends words c 21
   -- the output failed in the run: what was put is the output up to some boundary, and the report isn't written
-  output_failed : (g : Go) (s : FirstSystem) (m : FirstModule) (image : Image) (k : ℕ) (r : RunReport) → Made words c g s m image → HasImage c g image → ChangesOnly (image_name g) c.files c.files_after → k ≤ g.limit → IsRun image k r → Appends c.written c.written_after r.output → Rose c.faults c.faults_after → Ends words c 21
+  output_failed : (g : Go) (s : FirstSystem) (m : FirstModule) (image : Image) (k : ℕ) (r : RunReport) → Made words c g s m image → HasImage c g image → ChangesOnly (image_name g) c.files c.files_after → k ≤ g.limit → IsRun image k r → TakesNothing r → Appends c.written c.written_after r.output → Rose c.faults c.faults_after → Ends words c 21
   -- the report of the run can't be written
-  run_unreported : (g : Go) (s : FirstSystem) (m : FirstModule) (image : Image) (r : RunReport) → Made words c g s m image → HasImage c g image → ChangesTwo g c.files c.files_after → IsRun image g.limit r → Appends c.written c.written_after r.output → Rose (c.writes (report_name g)) (c.writes_after (report_name g)) → Ends words c 21
+  run_unreported : (g : Go) (s : FirstSystem) (m : FirstModule) (image : Image) (r : RunReport) → Made words c g s m image → HasImage c g image → ChangesTwo g c.files c.files_after → IsRun image g.limit r → TakesNothing r → Appends c.written c.written_after r.output → Rose (c.writes (report_name g)) (c.writes_after (report_name g)) → Ends words c 21
   -- the run, its output and its report
-  ran : (g : Go) (s : FirstSystem) (m : FirstModule) (image : Image) (r : RunReport) → Made words c g s m image → HasImage c g image → ChangesTwo g c.files c.files_after → Afterwards c.files c.files_after (Has (report_name g) (report_text s.task r)) → IsRun image g.limit r → Appends c.written c.written_after r.output → Ends words c (run_status r.condition)
+  ran : (g : Go) (s : FirstSystem) (m : FirstModule) (image : Image) (r : RunReport) → Made words c g s m image → HasImage c g image → ChangesTwo g c.files c.files_after → Afterwards c.files c.files_after (Has (report_name g) (report_text s.task r)) → IsRun image g.limit r → TakesNothing r → Appends c.written c.written_after r.output → Ends words c (run_status r.condition)

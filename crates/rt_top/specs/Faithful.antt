@@ -1,5 +1,5 @@
 -- What an image does is what the module means, for every input and every number of instructions.
-use Rattle.std.specs.Prelude.{ℕ, ◌≡◌, ◌≤◌, ◌<◌, ◌+◌, ◌*◌, ◌==◌, if◌then◌else◌, List, [], ◌∷◌, ◌++◌, length, Some, slice_index}
+use Rattle.std.specs.Prelude.{ℕ, ◌≡◌, ◌≤◌, ◌+◌, ◌*◌, ◌==◌, if◌then◌else◌, List, [], ◌∷◌, length, Some}
 use Rattle.rt_first.specs.declared.module.FirstModule.{FirstModule}
 use Rattle.rt_top.specs.declared.image.Image.{Image}
 use Rattle.rt_top.specs.Source.{SourceState, SvcData, Supplied, Rrgel, Rrin, Rrout, source}

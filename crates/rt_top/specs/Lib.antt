@@ -10,5 +10,6 @@ pub mod Report
 pub mod Outcome
 pub mod Ends
 pub mod Prepared
+pub mod Headline
 pub mod Accepting
 pub mod Running

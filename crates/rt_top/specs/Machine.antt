@@ -1,6 +1,6 @@
 -- The machine run of an image, boundary by boundary: one memory, the task's registers, marks, the console and the count.
 -- It names no tree.
-use Rattle.std.specs.Prelude.{ℕ, zero, suc, ◌+◌, ◌/◌, ◌%◌, Bool, ◌==◌, if◌then◌else◌, List, [], ◌∷◌, length, slice_index, Option, Some, None}
+use Rattle.std.specs.Prelude.{ℕ, zero, suc, ◌+◌, ◌/◌, ◌%◌, ◌==◌, if◌then◌else◌, List, [], ◌∷◌, length, slice_index, Option, Some, None}
 use Rattle.pdp_core.specs.World.{World}
 use Rattle.pdp_core.specs.Protection.{protected}
 use Rattle.pdp_core.specs.Execute.{Outcome, execute}
@@ -11,14 +11,14 @@ use Rattle.rt_top.specs.declared.condition.Condition.{Condition}
 use Rattle.rt_top.specs.declared.condition.Condition.TheVariants.{Ready, Ended}
 use Rattle.rt_top.specs.declared.image.Image.{Image}
 use Rattle.rt_top.specs.Console.{Outside, Request, Nothing, Puts, Ends, start_outside, serve}
-use Rattle.rt_top.specs.Image.{code_end, block_at, brick_end, memory_bytes, protection}
+use Rattle.rt_top.specs.Image.{block_at, brick_end, memory_bytes, protection}
 use Rattle.std.specs.Prelude.{false}
 
 pub record State : Type 0 where
   pub regs : Regs
   pub world : World
   pub outside : Outside
-  pub made : List ℕ -- the marks of the instructions so far, the last one first
+  pub made : List ℕ  -- the marks of the instructions so far, the last one first
 
 -- the visible steps so far
 abbrev pub steps_of : List ℕ → ℕ
@@ -66,8 +66,8 @@ service n g = if n == 2 then Some (Puts (argument g % 256)) else if n == 11 then
 -- where a run has come to: a boundary before another instruction, or its end
 pub data Reached : Type 0 where
   At : (state : State) → Reached
-  Over : (state : State) → Reached -- the task has ended
-  Faulted : (state : State) → Reached -- the next instruction faults, or asks for a service that this form doesn't have
+  Over : (state : State) → Reached  -- the task has ended
+  Faulted : (state : State) → Reached  -- the next instruction faults, or asks for a service that this form doesn't have
 
 -- a boundary: the run is over where the task has ended
 abbrev pub judge : Condition → State → Reached

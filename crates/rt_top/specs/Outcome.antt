@@ -1,5 +1,5 @@
 -- The outcome of `go` by the files: the first refusal in the order system text, tick text, module; else accepted.
-use Rattle.std.specs.Prelude.{ℕ, ◌≡◌, ◌≢◌, ◌≤◌, List, [], length, Option}
+use Rattle.std.specs.Prelude.{ℕ, ◌≢◌, ◌≤◌, List, [], length, Option}
 use Rattle.rt_outside.specs.Files.{Files, WhereTold, IsTold, Has, Lacks, HasTooLong, longest}
 use Rattle.rt_first.specs.System.{IsFirstSystem}
 use Rattle.rt_first.specs.Module.{IsFirstModule}

@@ -1,5 +1,5 @@
 -- What is made before anything is written.
-use Rattle.std.specs.Prelude.{ℕ, ◌≡◌, ◌≤◌, [], string_bytes}
+use Rattle.std.specs.Prelude.{◌≡◌, ◌≤◌, [], string_bytes}
 use Rattle.rt_top.specs.declared.image.Image.{Image}
 use Rattle.rt_top.specs.declared.prepare.Prepared.{Prepared}
 use Rattle.rt_top.specs.Words.{Go, image_name, report_name}

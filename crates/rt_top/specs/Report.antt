@@ -1,5 +1,5 @@
 -- The printed texts: fault lines, the report of a refusal, and the report of a run.
-use Rattle.std.specs.Prelude.{ℕ, ◌+◌, List, [], ◌∷◌, ◌++◌, codes, decimal, length}
+use Rattle.std.specs.Prelude.{ℕ, List, [], ◌++◌, codes, decimal}
 use Rattle.rt_top.specs.declared.condition.Condition.{Condition}
 use Rattle.rt_top.specs.declared.condition.Condition.TheVariants.{Ready, Ended}
 use Rattle.rt_top.specs.declared.refusal.Refusal.{Refusal}
@@ -39,9 +39,10 @@ pub record RunReport : Type 0 where
   pub instructions : ℕ
   pub steps : ℕ
   pub output : List ℕ
+  pub taken : ℕ  -- the bytes taken of the console's input
 
 abbrev pub report_of : State → RunReport
-report_of s = record { condition = s.outside.condition; instructions = instructions s; steps = steps s; output = s.outside.output }
+report_of s = record { condition = s.outside.condition; instructions = instructions s; steps = steps s; output = s.outside.output; taken = s.outside.taken }
 
 -- 0 where the task has ended, else 2
 abbrev pub run_status : Condition → ℕ

@@ -10,7 +10,7 @@ use Rattle.rt_top.specs.declared.machine.Asked.{Asked}
 use Rattle.rt_top.specs.declared.machine.Asked.TheVariants as asked
 use Rattle.rt_top.specs.declared.machine.Ending.{Ending}
 use Rattle.rt_top.specs.declared.machine.Ending.TheVariants as ending
-use Rattle.rt_top.specs.Machine.{State, Reached, Faulted, steps_of, start, argument, boundary_at, boundary}
+use Rattle.rt_top.specs.Machine.{State, Reached, Faulted, steps_of, argument, boundary_at, boundary}
 use Rattle.pdp_core.specs.declared.cpu.Regs.{Regs}
 use Rattle.rt_top.specs.declared.condition.Condition.{Condition}
 use Rattle.rt_top.specs.declared.condition.Condition.TheVariants.{Ended}
@@ -51,7 +51,7 @@ Ran ending.Faulted image limit m old new = (s : State) × ((input : List ℕ) �
 
 -- the report of the machine's run, with this output
 abbrev pub machine_report : Machine → List ℕ → RunReport
-machine_report m out = record { condition = m.condition; instructions = m.instructions; steps = m.steps; output = out }
+machine_report m out = record { condition = m.condition; instructions = m.instructions; steps = m.steps; output = out; taken = 0 }
 
 -- what a service is for the code: RROUT's byte is still to be put, the end is done in the machine
 abbrev pub asks : ℕ → Regs → Asked

@@ -2,7 +2,6 @@
 -- done in them, and no registers, addresses or code.
 use Rattle.std.specs.Prelude.{ℕ, zero, suc, List, [], ◌∷◌, Option, Some, None}
 use Rattle.rt_first.specs.declared.module.FirstModule.{FirstModule}
-use Rattle.rt_top.specs.declared.condition.Condition.TheVariants.{Ready, Ended}
 use Rattle.rt_top.specs.Console.{Outside, Request, Nothing, Puts, Ends, start_outside, serve}
 
 -- a supplied procedure
@@ -56,7 +55,7 @@ next HasEnded = None
 
 pub record SourceState : Type 0 where
   pub control : Control
-  pub store : SvcData -- no step of this form changes it
+  pub store : SvcData  -- no step of this form changes it
   pub outside : Outside
 
 abbrev pub start : FirstModule → SourceState

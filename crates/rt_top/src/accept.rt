@@ -49,7 +49,11 @@ pub fn accept<S: Store>(alloc: Global, store: &mut S, go: &GoWords) -> Result<Ac
     }
 }
 
-fn accept_system<S: Store>(alloc: Global, store: &mut S, go: &GoWords) -> Result<FirstSystem, Unaccepted>
+fn accept_system<S: Store>(
+    alloc: Global,
+    store: &mut S,
+    go: &GoWords,
+) -> Result<FirstSystem, Unaccepted>
     ensures ok { IfOk result (λ s. HasSystem (S.files store.old) (go_of go.now) s) }
     ensures err { IfErr result (λ u. IsRefused (S.files store.old) (S.read_faults store.old) (S.read_faults store.new) (go_of go.now) u) }
     ensures unchanged { S.files store.new ≡ S.files store.old }
@@ -66,7 +70,12 @@ fn accept_system<S: Store>(alloc: Global, store: &mut S, go: &GoWords) -> Result
     }
 }
 
-fn accept_ticks<S: Store>(alloc: Global, store: &mut S, go: &GoWords, system: &FirstSystem) -> Result<(), Unaccepted>
+fn accept_ticks<S: Store>(
+    alloc: Global,
+    store: &mut S,
+    go: &GoWords,
+    system: &FirstSystem,
+) -> Result<(), Unaccepted>
     requires { HasSystem (S.files store.old) (go_of go.now) system.now }
     ensures ok { IfOk result (λ _. HasNoTicks (S.files store.old) (go_of go.now)) }
     ensures err { IfErr result (λ u. IsRefused (S.files store.old) (S.read_faults store.old) (S.read_faults store.new) (go_of go.now) u) }
@@ -81,7 +90,12 @@ fn accept_ticks<S: Store>(alloc: Global, store: &mut S, go: &GoWords, system: &F
     }
 }
 
-fn accept_module<S: Store>(alloc: Global, store: &mut S, go: &GoWords, system: &FirstSystem) -> Result<FirstModule, Unaccepted>
+fn accept_module<S: Store>(
+    alloc: Global,
+    store: &mut S,
+    go: &GoWords,
+    system: &FirstSystem,
+) -> Result<FirstModule, Unaccepted>
     requires system { HasSystem (S.files store.old) (go_of go.now) system.now }
     requires ticks { HasNoTicks (S.files store.old) (go_of go.now) }
     ensures ok { IfOk result (λ m. Accepts (S.files store.old) (go_of go.now) system.now m) }
@@ -102,7 +116,12 @@ fn accept_module<S: Store>(alloc: Global, store: &mut S, go: &GoWords, system: &
 }
 
 // Reads the whole file of a name.
-fn read_text<S: Store>(alloc: Global, store: &mut S, name: &str, long: Refusal) -> Result<Vec<u8>, Unaccepted>
+fn read_text<S: Store>(
+    alloc: Global,
+    store: &mut S,
+    name: &str,
+    long: Refusal,
+) -> Result<Vec<u8>, Unaccepted>
     ensures ok { IfOk result (λ v. IsFile (S.files store.old) name.now v.items) }
     ensures err { IfErr result (λ u. IsUnread (S.files store.old) (S.read_faults store.old) (S.read_faults store.new) name.now long u) }
     ensures unchanged { S.files store.new ≡ S.files store.old }

@@ -16,7 +16,13 @@ use crate::words::GoWords;
 use rt_outside::{Sink, Store};
 
 /// Writes the image, runs it, and writes the report of the run.
-pub fn carry_out<S: Store, O: Sink>(store: &mut S, output: &mut O, go: &GoWords, accepted: &Accepted, prepared: &mut Prepared) -> u8
+pub fn carry_out<S: Store, O: Sink>(
+    store: &mut S,
+    output: &mut O,
+    go: &GoWords,
+    accepted: &Accepted,
+    prepared: &mut Prepared,
+) -> u8
     requires limit { go.now.limit ≤ 4000000000 }
     requires fits { Fits accepted.now.module }
     requires urgent { 1 ≤ accepted.now.system.priority }
@@ -33,7 +39,11 @@ pub fn carry_out<S: Store, O: Sink>(store: &mut S, output: &mut O, go: &GoWords,
         Ending::OutputFailed => return 21,
         Ending::Faulted => unreachable!(),
     }
-    report(&prepared.machine, &accepted.system.task, &mut prepared.report);
+    report(
+        &prepared.machine,
+        &accepted.system.task,
+        &mut prepared.report,
+    );
     match store.write(prepared.report_name.as_str(), prepared.report.as_slice()) {
         Ok(()) => status_of_run(prepared.machine.condition),
         Err(_) => 21,

@@ -3,6 +3,7 @@ ghost use Rattle.rt_top.specs.GoWords.{go_of};
 ghost use Rattle.rt_top.specs.Words.{IsGo, IsNoCommand};
 ghost use Rattle.rt_outside.specs.Files.{Files};
 ghost use Rattle.rt_top.specs.Ends.{the_call, Ends};
+ghost use Rattle.rt_top.specs.Headline.{Headline};
 
 use crate::accept::{Unaccepted, accept};
 use crate::carry_out::carry_out;
@@ -16,7 +17,10 @@ use std::alloc::Global;
 
 /// The whole of the program: does what the words say, and answers the status.
 ///
-/// The only command is `go SYSTEM TICKS LIMIT NAME`, for systems of the first form.
+/// The only command is `go SYSTEM TICKS LIMIT NAME`, for systems of the first form. It reads the texts, makes the image,
+/// writes it to NAME.IMG, runs it on the emulated processor with `output` as the console, and writes the report of the run
+/// to NAME.RPT. It answers 0 where the task has ended, 2 at the limit, 10 where no command has the words, 11 and 13 where a
+/// text is refused, 20 and 21 where an object's count of faults says why, and 30 for want of memory.
 pub fn top<S: Store, I: Source, O: Sink>(
     alloc: Global,
     words: &[String],
@@ -24,8 +28,19 @@ pub fn top<S: Store, I: Source, O: Sink>(
     input: &mut I,
     output: &mut O,
 ) -> u8
+    // The headline: accepts, runs, means and status where the texts are first; the refusals and the causes elsewhere.
+    ensures headline { Headline (map string_bytes words.now) (the_call (S.files store.old) (S.files store.new) (S.read_faults store.old) (S.read_faults store.new) (S.write_faults store.old) (S.write_faults store.new) (O.written output.old) (O.written output.new) (O.faults output.old) (O.faults output.new)) result }
+    // Each answer with its cause and what stands then.
     ensures ends { Ends (map string_bytes words.now) (the_call (S.files store.old) (S.files store.new) (S.read_faults store.old) (S.read_faults store.new) (S.write_faults store.old) (S.write_faults store.new) (O.written output.old) (O.written output.new) (O.faults output.old) (O.faults output.new)) result }
+    // No system of this form reads the console.
     ensures input { input.new ≡ input.old }
+{
+    obey(alloc, words, store, output)
+}
+
+// Does what the words say.
+fn obey<S: Store, O: Sink>(alloc: Global, words: &[String], store: &mut S, output: &mut O) -> u8
+    ensures { Ends (map string_bytes words.now) (the_call (S.files store.old) (S.files store.new) (S.read_faults store.old) (S.read_faults store.new) (S.write_faults store.old) (S.write_faults store.new) (O.written output.old) (O.written output.new) (O.faults output.old) (O.faults output.new)) result }
 {
     match read_go(words) {
         Some(go) => do_go(alloc, &go, store, output),

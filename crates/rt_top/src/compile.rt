@@ -10,6 +10,7 @@ use std::alloc::Global;
 const SUPPORT: [u16; 5] = [0o104401, 0o207, 0o104402, 0o207, 0o104412];
 /// The task's entry: JSR PC,@#root and TRAP 11.
 const ENTERS: [u16; 3] = [0o4737, 16, 0o104413];
+
 const ENTRY: u16 = 10;
 /// ERL 4, ERN, and the addresses of RRGEL, RRIN and RROUT.
 const BLOCK: [u16; 8] = [0, 0, 0, 0, 0, 8, 0, 4];

@@ -15,10 +15,9 @@ mod refuse;
 mod report;
 mod run;
 mod spell;
-
 mod words;
 
+pub use command::top;
 pub use condition::Condition;
 pub use image::{Image, ImageTask};
 pub use refusal::Refusal;
-pub use command::top;

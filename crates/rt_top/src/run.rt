@@ -60,7 +60,16 @@ fn registers(image: &Image) -> Regs
 {
     let parts = parts(image);
     Regs {
-        r: [0, 0, 0, 0, parts.block, 0, parts.brick_end, image.task.entry],
+        r: [
+            0,
+            0,
+            0,
+            0,
+            parts.block,
+            0,
+            parts.brick_end,
+            image.task.entry,
+        ],
         n: false,
         z: false,
         v: false,

@@ -53,5 +53,9 @@ fn read_limit(digits: &[u8]) -> Option<u64>
         }
         value = 10 * value + u64::from(*digit - b'0');
     }
-    if value <= GREATEST_LIMIT { Some(value) } else { None }
+    if value <= GREATEST_LIMIT {
+        Some(value)
+    } else {
+        None
+    }
 }

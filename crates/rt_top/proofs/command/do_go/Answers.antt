@@ -1,4 +1,3 @@
-use Rattle.std.proofs.Common.{rules, arith}
 use Rattle.rt_top.specs.Ends.{no_memory}
 use Rattle.rt_top.proofs.Endings.{keeps_same, fits_of}
 use Rattle.rt_top.proofs.command.do_go.Goals as goal

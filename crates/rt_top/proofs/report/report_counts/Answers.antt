@@ -1,4 +1,4 @@
-use Rattle.std.proofs.Common.{refl, sym, ap, ◌∙◌, ◌++◌, codes, decimal}
+use Rattle.std.proofs.Common.{ap, ◌∙◌, ◌++◌, codes, decimal}
 use Rattle.rt_top.proofs.Lists.{six}
 use Rattle.rt_top.proofs.report.report_counts.Goals as goal
 

@@ -1,4 +1,4 @@
-use Rattle.std.proofs.Common.{ap, ◌∙◌, refl, ◌+◌}
+use Rattle.std.proofs.Common.{refl, ◌+◌}
 use Rattle.rt_top.proofs.Runs.{trap_does}
 use Rattle.rt_top.proofs.run.instruction.Goals as goal
 

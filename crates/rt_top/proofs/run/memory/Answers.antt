@@ -1,5 +1,5 @@
-use Rattle.std.proofs.Common.{arith, ap, sym, refl, ◌∙◌, length, get_or}
-use Rattle.rt_top.proofs.Runs.{length-memory, world_start}
+use Rattle.std.proofs.Common.{arith, ap, sym, length, get_or}
+use Rattle.rt_top.proofs.Runs.{length-memory}
 use Rattle.rt_top.proofs.run.memory.Goals as goal
 
 pub loop-at-init : goal.loop-at-init

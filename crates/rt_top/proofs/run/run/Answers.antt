@@ -1,4 +1,4 @@
-use Rattle.std.proofs.Common.{arith, sym, ap, subst, ◌≤◌, ◌+◌, Option, ℕ, List}
+use Rattle.std.proofs.Common.{arith, sym, ap, subst, ◌≤◌, ◌+◌}
 use Rattle.rt_top.specs.Machine.{mark_of, pc}
 use Rattle.rt_top.specs.Running.{Reaches}
 use Rattle.rt_top.proofs.Runs.{reaches_limit, reaches_failed, reaches_fault, reaches_went, reaches_puts}
@@ -30,16 +30,15 @@ loop-made-preserved g c =
     let now = g.O.Sink.written c.loop-made.output in
     let mark = mark_of c.args.marks.now (pc c.loop-made.machine.regs) in
     let faults : g.O.Sink.faults c.args.output.now ≤ g.O.Sink.faults c.match-instruction.output =
-        elim c.match-instruction.branch [
-          in-Went w ↦ omega (arith, before.3, ap g.O.Sink.faults w.output-is)
-        | in-Puts+in-Ok w ↦ omega (arith, before.3, w.put.ensures.later, ap g.O.Sink.faults w.output-is)
-        ] in
-    (
+    elim c.match-instruction.branch [
+      | in-Went w ↦ omega (arith, before.3, ap g.O.Sink.faults w.output-is)
+      | in-Puts+in-Ok w ↦ omega (arith, before.3, w.put.ensures.later, ap g.O.Sink.faults w.output-is)
+    ] in (
       λ image em es. elim c.match-instruction.branch [
-        in-Went w ↦ subst (λ o. Reaches image (c.loop-made._made + 1) c.instruction.new.machine old (g.O.Sink.written o)) (sym w.output-is)
-          (reaches_went image c.loop-made._made c.loop-made.machine c.instruction.new.machine old now mark c.in-Ready.is (before.0 image em es) (λ out made. w.in-Went.ensures.does image out made em) count c.instruction.ensures.steps)
-      | in-Puts+in-Ok w ↦ subst (λ o. Reaches image (c.loop-made._made + 1) c.instruction.new.machine old (g.O.Sink.written o)) (sym w.output-is)
-          (reaches_puts image c.loop-made._made c.loop-made.machine c.instruction.new.machine old now (g.O.Sink.written w.put.new.self) mark w.in-Puts.byte c.in-Ready.is (before.0 image em es) (λ out made. w.in-Puts.ensures.does image out made em) count c.instruction.ensures.steps w.in-Ok.ensures.ok)
+        | in-Went w ↦ subst (λ o. Reaches image (c.loop-made._made + 1) c.instruction.new.machine old (g.O.Sink.written o)) (sym w.output-is)
+            (reaches_went image c.loop-made._made c.loop-made.machine c.instruction.new.machine old now mark c.in-Ready.is (before.0 image em es) (λ out made. w.in-Went.ensures.does image out made em) count c.instruction.ensures.steps)
+        | in-Puts+in-Ok w ↦ subst (λ o. Reaches image (c.loop-made._made + 1) c.instruction.new.machine old (g.O.Sink.written o)) (sym w.output-is)
+            (reaches_puts image c.loop-made._made c.loop-made.machine c.instruction.new.machine old now (g.O.Sink.written w.put.new.self) mark w.in-Puts.byte c.in-Ready.is (before.0 image em es) (λ out made. w.in-Puts.ensures.does image out made em) count c.instruction.ensures.steps w.in-Ok.ensures.ok)
       ],
       omega (arith, before.1, count),
       omega (arith, before.2, few),

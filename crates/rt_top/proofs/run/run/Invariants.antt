@@ -1,4 +1,4 @@
-use Rattle.std.proofs.Common.{◌≡◌, ◌≤◌, ◌*◌, [], ℕ}
+use Rattle.std.proofs.Common.{◌≡◌, ◌≤◌, ◌*◌, []}
 use Rattle.rt_top.specs.declared.image.Image.{Image}
 use Rattle.rt_top.specs.Machine.{start}
 use Rattle.rt_top.specs.Running.{state_of_machine, Reaches}

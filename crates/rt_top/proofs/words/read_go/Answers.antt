@@ -1,4 +1,4 @@
-use Rattle.std.proofs.Common.{rules, refl, sym, ap, ◌∙◌, ◌≡◌, List, ℕ, length, arith, map, string_bytes, codes}
+use Rattle.std.proofs.Common.{rules, refl, ap, ◌∙◌, ◌≡◌, arith, map, string_bytes, codes}
 use Rattle.rt_top.proofs.Lists.{five}
 use Rattle.rt_top.proofs.words.read_go.Goals as goal
 
