@@ -15,6 +15,8 @@ mod refuse;
 mod report;
 mod run;
 mod spell;
+#[cfg(test)]
+mod tests;
 mod words;
 
 pub use command::top;
