@@ -15,6 +15,8 @@ mod builder;
 mod list;
 mod memory;
 mod name;
+#[cfg(test)]
+mod tests;
 
 pub use arithmetic::{wrap_add, wrap_sub};
 pub use boxed::Boxed;
