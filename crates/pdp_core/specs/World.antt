@@ -43,7 +43,7 @@ abbrev pub where_ok : {A : Type 0} → Result (Unit {0}) Refused → A → Resul
 where_ok (Ok u) x = Ok x
 where_ok (Err e) x = Err e
 
--- the four ways to read
+-- the ways to read
 abbrev pub fetched : World → ℕ → Result ℕ Refused
 fetched w a = where_ok (word_use w.fetches a) (word_at w.bytes a)
 

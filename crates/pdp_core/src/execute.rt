@@ -495,7 +495,7 @@ fn attempt<B: Bus>(bus: &mut B, regs: &mut Regs) -> Result<Stop, Failure>
 }
 
 /// One instruction: registers, flags and memory are changed as the instruction table says, or, on a fault, not at all. It
-/// takes no memory of the host, and makes each access of the table once.
+/// takes no memory of the host.
 pub fn step<B: Bus>(regs: &mut Regs, bus: &mut B) -> Stop
     ensures { execute (B.world bus.old) regs.old ≡ record { stop = result; regs = regs.new; world = B.world bus.new } }
 {
