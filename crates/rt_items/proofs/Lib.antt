@@ -1,0 +1,6 @@
+pub mod Fronts
+pub mod Steps
+pub mod Cuts
+pub mod Looking
+pub mod Tables
+pub mod Strings
