@@ -4,3 +4,5 @@ pub mod Cuts
 pub mod Looking
 pub mod Tables
 pub mod Strings
+pub mod Expanding
+pub mod Readings

@@ -1,12 +1,13 @@
 -- The parts of a string, and what they give.
 use Rattle.std.proofs.Common.{◌≡◌, ℕ, suc, ◌+◌, ◌-◌, ◌<◌, ◌≤◌, Bool, true, false, not, eqb, List, [], ◌∷◌, ◌++◌, length, take, drop, Option, Some, None, Result, Ok, Err, refl, sym, ap, subst, ◌∙◌, arith, length-append, length-drop, append_assoc}
-use Rattle.std.specs.Prelude.{take_while}
+use Rattle.std.specs.Prelude.{take_while, nat_lt}
 use Rattle.std.proofs.lemmas.Bool.{eqb-true, eq-eqb}
 use Rattle.std.proofs.lemmas.List.{take_at, drop_at, append-nil}
 use Rattle.rt_items.specs.declared.fault.TextFault.{TextFault}
 use Rattle.rt_items.specs.declared.fault.TextFault.TheVariants.{Memory, BadCharacter}
-use Rattle.rt_items.specs.Bytes.{is_printable, Each, Ends}
-use Rattle.rt_items.specs.Texts.{Lets, Given, followed, behind_fault, with_bytes, Gives, parts, onto_first, characters, value, value_in, past_blanks, values, in_turn, from_insert}
+use Rattle.rt_items.specs.Bytes.{is_printable, in_string, Each, Ends}
+use Rattle.rt_items.specs.Texts.{Lets, Given, followed, behind_fault, with_bytes, Gives, parts, onto_first, characters, value, value_in, past_blanks, values, in_turn, from_insert, closing, failing, unfinished, result_map, PairGives, InsertGives, limited, string_of}
+use Rattle.rt_items.specs.Reading.{Answers}
 use Rattle.rt_items.proofs.Fronts.{front, front_is, front_length, each_front, ends_front, parts_front, whole_front, neq_eqb, tail_is}
 
 abbrev given : List ℕ → Option TextFault → Given
@@ -133,7 +134,91 @@ turn_more lets n closed outside xs =
     by_rest inside [] = refl
     by_rest inside (next ∷ rest) = refl
 
+turn_last : (lets : Lets) (n : ℕ) (closed : Bool) (outside : List ℕ) → in_turn lets n closed (outside ∷ []) ≡ followed (characters n outside) (closing n closed)
+unfolding in_turn
+turn_last lets n closed outside = refl
+
 pub insert_more : (lets : Lets) (n : ℕ) (closed : Bool) (inside xs : List ℕ) → from_insert lets n closed (inside ∷ parts 35 xs) ≡ followed (values lets n true (parts 44 inside)) (in_turn lets n closed (parts 35 xs))
 insert_more lets n closed inside xs =
     let some = parts_some 35 xs in
     ap (λ (t : List (List ℕ)). from_insert lets n closed (inside ∷ t)) some.2 ∙ ap (λ (t : List (List ℕ)). followed (values lets n true (parts 44 inside)) (in_turn lets n closed t)) (sym some.2)
+
+module _ (lets : Lets) (n : ℕ) (closed : Bool) (old out new inside rest : List ℕ) (len : ℕ) (len-is : len ≡ length (take_while (λ b. not (eqb b 44)) rest)) (so_far : with_bytes old (values lets n closed (parts 44 inside)) ≡ with_bytes out (values lets n closed (parts 44 rest))) where
+  pub values_end : (r : Result (Unit {0}) TextFault) → len ≡ length rest → Gives (with_bytes out (value lets n closed rest)) new r → Gives (with_bytes old (values lets n closed (parts 44 inside))) new r
+  values_end r all h =
+      same_given _ _ new r (so_far ∙ ap (λ (t : List (List ℕ)). with_bytes out (values lets n closed t)) (parts_all 44 rest len len-is all) ∙ ap (with_bytes out) (values_last lets n closed rest)) h
+
+  one_more : (len ≡ length rest → ⊥) → with_bytes old (values lets n closed (parts 44 inside)) ≡ with_bytes out (followed (value lets n true (take len rest)) (values lets n closed (parts 44 (drop (len + 1) rest))))
+  one_more some = so_far ∙ ap (λ (t : List (List ℕ)). with_bytes out (values lets n closed t)) (parts_more 44 rest len len-is some).0 ∙ ap (with_bytes out) (values_more lets n closed (take len rest) (drop (len + 1) rest))
+
+  pub values_stop : (f : TextFault) → (len ≡ length rest → ⊥) → Gives (with_bytes out (value lets n true (take len rest))) new (Err f) → Gives (with_bytes old (values lets n closed (parts 44 inside))) new (Err f)
+  values_stop f some h = same_given _ _ new (Err f) (one_more some) (stops_there out new (value lets n true (take len rest)) (values lets n closed (parts 44 (drop (len + 1) rest))) f h)
+
+  pub values_go : (after : List ℕ) → after ≡ drop (len + 1) rest → (len ≡ length rest → ⊥) → Gives (with_bytes out (value lets n true (take len rest))) new (Ok tt) → with_bytes old (values lets n closed (parts 44 inside)) ≡ with_bytes new (values lets n closed (parts 44 after))
+  values_go after is some h =
+      one_more some ∙ goes_on out new (value lets n true (take len rest)) (values lets n closed (parts 44 (drop (len + 1) rest))) h ∙ ap (λ (t : List ℕ). with_bytes new (values lets n closed (parts 44 t))) (sym is)
+
+module _ (lets : Lets) (n : ℕ) (closed : Bool) (bytes old new : List ℕ) (len : ℕ) (len-is : len ≡ length (take_while (λ b. not (eqb b 35)) bytes)) where
+  pub pair_ends : (done : Result (Unit {0}) TextFault) (r : Result (Option (List ℕ)) TextFault) → len ≡ length bytes → Gives (with_bytes old (followed (characters n bytes) (closing n closed))) new done → r ≡ result_map (λ u. None) done → PairGives lets n closed bytes old new r
+  pair_ends done r all h is = subst (λ (t : Result (Option (List ℕ)) TextFault). PairGives lets n closed bytes old new t) (sym is) (by_case done (same_given _ _ new done (ap (with_bytes old) (ap (in_turn lets n closed) (parts_all 35 bytes len len-is all) ∙ turn_last lets n closed bytes)) h))
+    where
+      by_case : (done : Result (Unit {0}) TextFault) → Gives (with_bytes old (in_turn lets n closed (parts 35 bytes))) new done → PairGives lets n closed bytes old new (result_map (λ u. None) done)
+      by_case (Ok u) h = h
+      by_case (Err Memory) h = tt
+      by_case (Err f) h = h
+
+  pub insert_ends : (done : Result (Unit {0}) TextFault) (r : Result (Option (List ℕ)) TextFault) → len ≡ length bytes → Gives (with_bytes old (followed (values lets n closed (parts 44 bytes)) (failing (unfinished n closed)))) new done → r ≡ result_map (λ u. None) done → InsertGives lets n closed bytes old new r
+  insert_ends done r all h is = subst (λ (t : Result (Option (List ℕ)) TextFault). InsertGives lets n closed bytes old new t) (sym is) (by_case done (same_given _ _ new done (ap (λ (t : List (List ℕ)). with_bytes old (from_insert lets n closed t)) (parts_all 35 bytes len len-is all)) h))
+    where
+      by_case : (done : Result (Unit {0}) TextFault) → Gives (with_bytes old (from_insert lets n closed (parts 35 bytes))) new done → InsertGives lets n closed bytes old new (result_map (λ u. None) done)
+      by_case (Ok u) h = h
+      by_case (Err Memory) h = tt
+      by_case (Err f) h = h
+
+  shorter : (len ≡ length bytes → ⊥) → length (drop (len + 1) bytes) < length bytes
+  shorter some = let less = (parts_more 35 bytes len len-is some).1 in omega (arith, length-drop (len + 1) bytes)
+
+  pair_is : (len ≡ length bytes → ⊥) → with_bytes old (in_turn lets n closed (parts 35 bytes)) ≡ with_bytes old (followed (characters n (take len bytes)) (from_insert lets n closed (parts 35 (drop (len + 1) bytes))))
+  pair_is some = ap (with_bytes old) (ap (in_turn lets n closed) (parts_more 35 bytes len len-is some).0 ∙ turn_more lets n closed (take len bytes) (drop (len + 1) bytes))
+
+  insert_is : (len ≡ length bytes → ⊥) → with_bytes old (from_insert lets n closed (parts 35 bytes)) ≡ with_bytes old (followed (values lets n true (parts 44 (take len bytes))) (in_turn lets n closed (parts 35 (drop (len + 1) bytes))))
+  insert_is some = ap (with_bytes old) (ap (from_insert lets n closed) (parts_more 35 bytes len len-is some).0 ∙ insert_more lets n closed (take len bytes) (drop (len + 1) bytes))
+
+  pub pair_stops : (f : TextFault) → (len ≡ length bytes → ⊥) → Gives (with_bytes old (characters n (take len bytes))) new (Err f) → PairGives lets n closed bytes old new (Err f)
+  pair_stops f some h = as_pair f (same_given _ _ new (Err f) (pair_is some) (stops_there old new (characters n (take len bytes)) (from_insert lets n closed (parts 35 (drop (len + 1) bytes))) f h))
+    where
+      as_pair : (f : TextFault) → Gives (with_bytes old (in_turn lets n closed (parts 35 bytes))) new (Err f) → PairGives lets n closed bytes old new (Err f)
+      as_pair Memory h = tt
+      as_pair f h = h
+
+  pub insert_stops : (f : TextFault) → (len ≡ length bytes → ⊥) → Gives (with_bytes old (values lets n true (parts 44 (take len bytes)))) new (Err f) → InsertGives lets n closed bytes old new (Err f)
+  insert_stops f some h = as_insert f (same_given _ _ new (Err f) (insert_is some) (stops_there old new (values lets n true (parts 44 (take len bytes))) (in_turn lets n closed (parts 35 (drop (len + 1) bytes))) f h))
+    where
+      as_insert : (f : TextFault) → Gives (with_bytes old (from_insert lets n closed (parts 35 bytes))) new (Err f) → InsertGives lets n closed bytes old new (Err f)
+      as_insert Memory h = tt
+      as_insert f h = h
+
+  pub insert_goes : (after : List ℕ) → after ≡ drop (len + 1) bytes → (len ≡ length bytes → ⊥) → Gives (with_bytes old (values lets n true (parts 44 (take len bytes)))) new (Ok tt) → InsertGives lets n closed bytes old new (Ok (Some after))
+  insert_goes after is some h =
+      (insert_is some ∙ goes_on old new (values lets n true (parts 44 (take len bytes))) (in_turn lets n closed (parts 35 (drop (len + 1) bytes))) h ∙ ap (λ (t : List ℕ). with_bytes new (in_turn lets n closed (parts 35 t))) (sym is),
+       subst (λ (t : List ℕ). length t < length bytes) (sym is) (shorter some))
+
+module _ (lets : Lets) (n : ℕ) (closed : Bool) (bytes old middle new : List ℕ) (len : ℕ) (len-is : len ≡ length (take_while (λ b. not (eqb b 35)) bytes)) (some : len ≡ length bytes → ⊥) where
+  pub pair_goes : (after : List ℕ) (r : Result (Option (List ℕ)) TextFault) → after ≡ drop (len + 1) bytes → Gives (with_bytes old (characters n (take len bytes))) middle (Ok tt) → InsertGives lets n closed after middle new r → PairGives lets n closed bytes old new r
+  pair_goes after r is h x =
+      by_case r (pair_is lets n closed bytes old new len len-is some ∙ goes_on old middle (characters n (take len bytes)) (from_insert lets n closed (parts 35 (drop (len + 1) bytes))) h ∙ ap (λ (t : List ℕ). with_bytes middle (from_insert lets n closed (parts 35 t))) (sym is)) x
+    where
+      by_case : (r : Result (Option (List ℕ)) TextFault) → with_bytes old (in_turn lets n closed (parts 35 bytes)) ≡ with_bytes middle (from_insert lets n closed (parts 35 after)) → InsertGives lets n closed after middle new r → PairGives lets n closed bytes old new r
+      by_case (Ok None) e x = e ∙ x
+      by_case (Ok (Some rest)) e x = let less = x.1 in let least = shorter lets n closed bytes old new len len-is some in (e ∙ x.0, omega (arith, ap length is))
+      by_case (Err Memory) e x = tt
+      by_case (Err f) e x = e ∙ x
+
+pub string_is : (lets : Lets) (n : ℕ) (bs : List ℕ) (len : ℕ) (closed : Bool) (start new : List ℕ) (done : Result (Unit {0}) TextFault) (r : Result (List ℕ) TextFault) → len ≡ length (take_while in_string bs) → closed ≡ nat_lt len (length bs) → start ≡ []
+    → Gives (with_bytes start (in_turn lets n closed (parts 35 (take len bs)))) new done → ((given : Given) → Gives given new done → Answers (limited n given) r) → Answers (string_of lets n bs) r
+string_is lets n bs len closed start new done r len-is closed-is empty h answers =
+    let body : take len bs ≡ take_while in_string bs = while_taken in_string bs len len-is in
+    let is_closed : closed ≡ nat_lt (length (take_while in_string bs)) (length bs) = closed-is ∙ ap (λ (k : ℕ). nat_lt k (length bs)) len-is in
+    answers (in_turn lets n (nat_lt (length (take_while in_string bs)) (length bs)) (parts 35 (take_while in_string bs)))
+    (subst (λ (g : Given). Gives g new done) (ap (λ (t : List ℕ). with_bytes t (in_turn lets n closed (parts 35 (take len bs)))) empty ∙ ap (λ (t : Bool). in_turn lets n t (parts 35 (take len bs))) is_closed
+    ∙ ap (λ (t : List ℕ). in_turn lets n (nat_lt (length (take_while in_string bs)) (length bs)) (parts 35 t)) body) h)

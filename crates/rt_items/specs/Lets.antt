@@ -138,6 +138,13 @@ pub data Expands (e : End) : Lets → ℕ → List Piece → Reading → Type 0 
 abbrev pub Items : List ℕ → Reading → Type 0
 Items bytes r = (ps : List Piece) × (e : End) × Cut (length bytes) None 1 bytes ps e × Expands e no_lets 0 ps r
 
+-- no text has two readings, and each text has one
+abbrev pub HaveOneReading : Type 0
+HaveOneReading = (bytes : List ℕ) → (r s : Reading) → Items bytes r → Items bytes s → r ≡ s
+
+abbrev pub HaveSomeReading : Type 0
+HaveSomeReading = (bytes : List ℕ) → (r : Reading) × Items bytes r
+
 -- what is added to so many items, where they are at most 65,535 then
 abbrev pub Adds : List ItemKind → ℕ → ℕ → Type 0 → Result (Unit {0}) TextFault → Type 0
 Adds new count n Added (Ok done) = (count + length new ≤ 65535) × Added

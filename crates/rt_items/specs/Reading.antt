@@ -19,7 +19,7 @@ use Rattle.rt_items.specs.Pieces.{base_of, mark_of_one, mark_of_two, mark_of_thr
 use Rattle.rt_items.specs.Cutting.{Piece, End, Clean, Stops, piece_at, digits_of, place}
 use Rattle.rt_items.specs.Texts.{Lets}
 use Rattle.rt_items.specs.Meaning.{Meant, meaning}
-use Rattle.rt_items.specs.Lets.{Reading, Items, with_items, at_end, cut_off, replaced, items_at, with_let, is_let, is_semicolon, is_equal, name_of}
+use Rattle.rt_items.specs.Lets.{Reading, no_lets, with_items, at_end, cut_off, replaced, items_at, with_let, is_let, is_semicolon, is_equal, name_of}
 
 -- ---- the cut
 
@@ -216,3 +216,7 @@ IsNoGap (seen.Piece found next) = Unit {0}
 -- the reading of the text from a place on, in this state
 abbrev pub reading_from : Cuts → State → Lets → ℕ → Reading
 reading_from cuts state lets count = expand cuts.1 cuts.0 state lets count
+
+-- what the text's reading comes to
+unfoldable pub reading_of : List ℕ → Reading
+reading_of bytes = reading_from (cuts_of (length bytes) None 1 bytes) Plain no_lets 0

@@ -1,8 +1,8 @@
 //! The items of a text.
 
-ghost use Rattle.std.specs.Prelude.{◌≡◌, ◌≢◌, ◌⊎◌, ◌≤◌, ℕ, List, Ok, Err, length, IfOk, IfErr};
-ghost use Rattle.rt_items.specs.Lets.{Items, Reading};
-ghost use Rattle.rt_items.specs.Reading.{Turns, turn_meant};
+ghost use Rattle.std.specs.Prelude.{◌≡◌, ◌≢◌, ◌⊎◌, ◌≤◌, Ok, Err, length, IfOk, IfErr};
+ghost use Rattle.rt_items.specs.Lets.{Items, Reading, HaveOneReading, HaveSomeReading};
+ghost use Rattle.rt_items.specs.Reading.{Turns, turn_meant, reading_of, Answers};
 ghost use Rattle.rt_items.specs.Meaning.{meaning_by};
 ghost use Rattle.rt_items.specs.Table.{lets_of};
 
@@ -30,7 +30,32 @@ fn add_piece(
     }
 }
 
-/// The items of a text of at most 4,194,304 bytes, or its first fault.
+fn read(alloc: Global, bytes: &[u8]) -> Result<List<Item>, TextFault>
+    requires { length bytes.now ≤ 4194304 }
+    ensures { Answers (reading_of bytes.now) result }
+{
+    let total = bytes.len();
+    let mut table = empty_table(alloc);
+    let mut out = List::new(alloc, 0)?;
+    let mut state = State::Plain;
+    let mut cursor = Cursor { opened: None, line: 1, rest: bytes };
+    loop {
+        match next_piece(total, cursor) {
+            Seen::End => return finish(state, out),
+            Seen::Fault(fault) => return Err(fault),
+            Seen::Gap(_) => unreachable!(),
+            Seen::Piece(found, next) => match add_piece(alloc, state, &mut table, &mut out, found) {
+                Err(fault) => return Err(fault),
+                Ok(after) => {
+                    state = after;
+                    cursor = next;
+                }
+            },
+        }
+    }
+}
+
+/// The items of a text of at most 4,194,304 bytes (BS 5904, items), or its first fault.
 pub fn items(alloc: Global, bytes: &[u8]) -> Result<List<Item>, TextFault>
     requires { length bytes.now ≤ 4194304 }
     // What is answered is what the text has.
@@ -40,28 +65,11 @@ pub fn items(alloc: Global, bytes: &[u8]) -> Result<List<Item>, TextFault>
     // What the text has is answered, unless memory runs out.
     ensures only { (r : Reading) → Items bytes.now r → (result ≡ Err TextFault.Memory) ⊎ (result ≡ r) }
 {
-    let total = bytes.len();
-    let mut table = empty_table(alloc);
-    let mut out = List::new(alloc, 0)?;
-    let mut state = State::Plain;
-    let mut cursor = Cursor { opened: None, line: 1, rest: bytes };
-    loop {
-        match next_piece(total, cursor) {
-            Seen::Piece(found, next) => match add_piece(alloc, state, &mut table, &mut out, found) {
-                Err(fault) => return Err(fault),
-                Ok(after) => {
-                    state = after;
-                    cursor = next;
-                }
-            },
-            Seen::Fault(fault) => return Err(fault),
-            _ => return finish(state, out),
-        }
-    }
+    read(alloc, bytes)
 }
 
 /// Each text has one reading: its items, or one fault.
 pub fn one_reading()
-    ensures one { (bytes : List ℕ) → (r s : Reading) → Items bytes r → Items bytes s → r ≡ s }
-    ensures some { (bytes : List ℕ) → (r : Reading) × Items bytes r }
+    ensures one { HaveOneReading }
+    ensures some { HaveSomeReading }
 {}

@@ -1,6 +1,6 @@
 //! Strings and their inserts.
 
-ghost use Rattle.std.specs.Prelude.{◌≡◌, ◌+◌, ◌<◌, ◌^◌, not, ◌==◌, length, take_while, None};
+ghost use Rattle.std.specs.Prelude.{◌≡◌, ◌+◌, ◌<◌, ◌≤◌, ◌^◌, not, ◌==◌, length, take_while, None};
 ghost use Rattle.std.specs.List.{list_all};
 ghost use Rattle.std.specs.Option.{option_map};
 ghost use Rattle.rt_items.specs.Bytes as bytes_of;
@@ -148,8 +148,22 @@ fn value_in(
     }
 }
 
+/// One value of an insert, with layout around it.
+fn value(
+    table: &LetTable,
+    out: &mut Text,
+    line: u32,
+    closed: bool,
+    field: &[u8],
+) -> Result<(), TextFault>
+    ensures { Gives (with_bytes out.old.items (spec.value (lets_of table.now) line closed field.now)) out.new.items result }
+{
+    value_in(table, out, line, closed, past_blanks(field))
+}
+
 fn part_len(separator: u8, bytes: &[u8]) -> usize
-    ensures { result ≡ length (take_while (λ b. not (b == separator)) bytes.now) }
+    ensures within { result ≤ length bytes.now }
+    ensures part { result ≡ length (take_while (λ b. not (b == separator)) bytes.now) }
 {
     bytes.iter().take_while(|b| **b != separator).count()
 }
@@ -168,9 +182,9 @@ fn values(
     loop {
         let len = part_len(b',', rest);
         if len == rest.len() {
-            return value_in(table, out, line, closed, past_blanks(rest));
+            return value(table, out, line, closed, rest);
         }
-        match value_in(table, out, line, true, past_blanks(&rest[..len])) {
+        match value(table, out, line, true, &rest[..len]) {
             Err(fault) => return Err(fault),
             Ok(()) => rest = &rest[len + 1..],
         }
