@@ -1,5 +1,5 @@
 -- Piece by piece comes to the same as the whole list.
-use Rattle.std.proofs.Common.{◌≡◌, ◌≢◌, ℕ, zero, suc, ◌+◌, ◌-◌, ◌<◌, ◌≤◌, Bool, true, false, cond, leb, List, [], ◌∷◌, ◌++◌, length, map, Option, Some, None, Result, Ok, Err, ◌⊎◌, inl, inr, refl, sym, ap, subst, ◌∙◌, arith, length-append, append_assoc, add-zero}
+use Rattle.std.proofs.Common.{◌≡◌, ℕ, zero, suc, ◌+◌, ◌<◌, ◌≤◌, Bool, true, false, cond, leb, List, [], ◌∷◌, ◌++◌, length, Option, Some, None, Result, Ok, Err, refl, sym, ap, subst, ◌∙◌, arith, length-append, append_assoc, add-zero}
 use Rattle.std.proofs.lemmas.Bool.Decides.{nat_tests}
 use Rattle.std.proofs.lemmas.List.{append-nil, length-map}
 use Rattle.std.proofs.Math.Path.{fun_ext}
@@ -12,8 +12,8 @@ use Rattle.rt_items.specs.declared.expand.State.TheVariants.{Plain, Behind, Name
 use Rattle.rt_items.specs.Texts.{Lets}
 use Rattle.rt_items.specs.Cutting.{Piece, End, Clean, Stops}
 use Rattle.rt_items.specs.Meaning.{Meant, meaning}
-use Rattle.rt_items.specs.Lets.{Reading, with_let, replaced, item_at, items_at, is_let, is_semicolon, is_equal, name_of, with_items, at_end, cut_off, Declared, LetText, with_text, text_goes_on, text_piece, let_text, declares, behind_equal, behind_name, if_named, named_by, declaration, Expands, ended, spoiled, item, too_many, declared, undeclared}
-use Rattle.rt_items.specs.Reading.{Next, Goes, Fails, plain, turn, turn_meant, within, end_of, after_turn, expand, Answers, Turns, Cuts, before, reading_from}
+use Rattle.rt_items.specs.Lets.{Reading, with_let, replaced, item_at, items_at, is_let, is_semicolon, is_equal, name_of, with_items, at_end, Declared, LetText, with_text, text_goes_on, text_piece, let_text, declares, behind_equal, behind_name, if_named, named_by, declaration, Expands, ended, spoiled, item, too_many, declared, undeclared}
+use Rattle.rt_items.specs.Reading.{Next, Goes, Fails, turn, turn_meant, within, after_turn, expand, Answers, Turns, Cuts, before, reading_from}
 
 pub with_none : (r : Reading) → with_items [] r ≡ r
 with_none (Ok is) = refl
@@ -62,9 +62,11 @@ expand_text e (p ∷ ps) n name text lets count = by_meaning (λ longer. expand_
         ∙ longer_text e lets count name text (replaced lets k) (let_text lets e n ps (length (text ++ replaced lets k)))
         ∙ ap (λ (c : ℕ). text_reading e lets count name text (with_text (replaced lets k) (let_text lets e n ps c))) (length-append text (replaced lets k))
     by_room later k false fits = refl
+
     by_end : ((longer : List ItemKind) → expand e ps (Within n name longer) lets count ≡ text_reading e lets count name longer (let_text lets e n ps (length longer))) → (k : ItemKind) (t : Bool) → is_semicolon k ≡ t → after_turn (expand e ps) count (within lets p.line n name text k) ≡ text_reading e lets count name text (text_piece lets (let_text lets e n ps) (length text) p.line ps (Ok k))
     by_end later k true is = rw is (nothing_out (expand e ps) count Plain (with_let name text lets) ∙ ap (λ (t : List ItemKind). expand e ps Plain (with_let name t lets) count) (sym (append-nil text)))
     by_end later k false is = rw is (by_room later k (leb (length text + length (replaced lets k)) 65535) refl)
+
     by_meaning : ((longer : List ItemKind) → expand e ps (Within n name longer) lets count ≡ text_reading e lets count name longer (let_text lets e n ps (length longer))) → (m : Meant) → after_turn (expand e ps) count (turn_meant (Within n name text) lets count p.line p.from p.to m) ≡ text_reading e lets count name text (text_piece lets (let_text lets e n ps) (length text) p.line ps m)
     by_meaning later (Err f) = refl
     by_meaning later (Ok k) = by_end later k (is_semicolon k) refl
@@ -81,6 +83,7 @@ expand_named e (p ∷ ps) n name lets count = by_meaning (meaning lets p)
     by_equal : (k : ItemKind) (t : Bool) → is_equal k ≡ t → after_turn (expand e ps) count (turn (Named n name) lets count p.line p.from p.to k) ≡ declared_reading e lets count (behind_equal lets e n name ps (Ok k))
     by_equal k true is = rw is (nothing_out (expand e ps) count (Within n name []) lets ∙ expand_text e ps n name [] lets count ∙ declares_it e lets count name (let_text lets e n ps 0))
     by_equal k false is = rw is refl
+
     by_meaning : (m : Meant) → after_turn (expand e ps) count (turn_meant (Named n name) lets count p.line p.from p.to m) ≡ declared_reading e lets count (behind_equal lets e n name ps m)
     by_meaning (Err f) = refl
     by_meaning (Ok k) = by_equal k (is_equal k) refl
@@ -93,6 +96,7 @@ expand_behind e (p ∷ ps) n lets count = by_meaning (meaning lets p)
     by_name : (k : ItemKind) (o : Option (List ℕ)) → name_of k ≡ o → after_turn (expand e ps) count (turn (Behind n) lets count p.line p.from p.to k) ≡ declared_reading e lets count (if_named lets e n ps (name_of k))
     by_name k (Some name) is = rw is (nothing_out (expand e ps) count (Named n name) lets ∙ expand_named e ps n name lets count)
     by_name k None is = rw is refl
+
     by_meaning : (m : Meant) → after_turn (expand e ps) count (turn_meant (Behind n) lets count p.line p.from p.to m) ≡ declared_reading e lets count (named_by lets e n ps m)
     by_meaning (Err f) = refl
     by_meaning (Ok k) = by_name k (name_of k) refl
@@ -137,9 +141,11 @@ text_short lets e n (p ∷ ps) count = by_meaning (λ more. text_short lets e n 
     by_room : ((more : ℕ) → IsShortText ps (let_text lets e n ps more)) → (new : List ItemKind) (t : Bool) → IsShortText (p ∷ ps) (cond t (with_text new (let_text lets e n ps (count + length new))) (Err (TooManyItems p.line)))
     by_room later new true = with_text_short p ps new (let_text lets e n ps (count + length new)) (later (count + length new))
     by_room later new false = tt
+
     by_end : ((more : ℕ) → IsShortText ps (let_text lets e n ps more)) → (k : ItemKind) (t : Bool) → IsShortText (p ∷ ps) (cond t (Ok ([], ps)) (text_goes_on (let_text lets e n ps) count p.line (replaced lets k)))
     by_end later k true = omega arith
     by_end later k false = by_room later (replaced lets k) (leb (count + length (replaced lets k)) 65535)
+
     by_meaning : ((more : ℕ) → IsShortText ps (let_text lets e n ps more)) → (m : Meant) → IsShortText (p ∷ ps) (text_piece lets (let_text lets e n ps) count p.line ps m)
     by_meaning later (Err f) = tt
     by_meaning later (Ok k) = by_end later k (is_semicolon k)
@@ -159,6 +165,7 @@ behind_short lets e n name p (q ∷ ps) = by_meaning (meaning lets q)
     by_equal : (t : Bool) → IsShort (p ∷ q ∷ ps) (cond t (declares name (let_text lets e n ps 0)) (Err (BadLet n)))
     by_equal true = declares_short name ps (p ∷ q ∷ ps) (let_text lets e n ps 0) (text_short lets e n ps 0) (omega arith)
     by_equal false = tt
+
     by_meaning : (m : Meant) → IsShort (p ∷ q ∷ ps) (behind_equal lets e n name ps m)
     by_meaning (Err f) = tt
     by_meaning (Ok k) = by_equal (is_equal k)
@@ -170,6 +177,7 @@ declaration_short lets e n (p ∷ ps) = by_meaning (meaning lets p)
     by_name : (o : Option (List ℕ)) → IsShort (p ∷ ps) (if_named lets e n ps o)
     by_name (Some name) = behind_short lets e n name p ps
     by_name None = tt
+
     by_meaning : (m : Meant) → IsShort (p ∷ ps) (named_by lets e n ps m)
     by_meaning (Err f) = tt
     by_meaning (Ok k) = by_name (name_of k)
@@ -205,6 +213,32 @@ some_reading (suc fuel) e lets count (p ∷ ps) le = read_meaning e lets count p
 
 pub expand_sound : (e : End) (lets : Lets) (count : ℕ) (ps : List Piece) → Expands e lets count ps (expand e ps Plain lets count)
 expand_sound e lets count ps = let x = some_reading (length ps) e lets count ps (omega arith) in subst (λ (r : Reading). Expands e lets count ps r) (sym (expand_complete x.1)) x.1
+
+-- ---- a reading has at most 65,535 items
+
+abbrev IsBounded : ℕ → Reading → Type 0
+IsBounded count (Ok is) = count + length is ≤ 65535
+IsBounded count (Err f) = Unit {0}
+
+end_bounded : (e : End) (count : ℕ) → count ≤ 65535 → IsBounded count (at_end e)
+end_bounded Clean count le = omega arith
+end_bounded (Stops f) count le = tt
+
+more_bounded : (count more : ℕ) (new : List Item) (r : Reading) → length new ≡ more → IsBounded (count + more) r → IsBounded count (with_items new r)
+more_bounded count more new (Ok is) size h = omega (arith, length-append new is)
+more_bounded count more new (Err f) size h = tt
+
+bounded : {e : End} {lets : Lets} {count : ℕ} {ps : List Piece} {r : Reading} → Expands e lets count ps r → count ≤ 65535 → IsBounded count r
+bounded {e = e} {count = count} ended le = end_bounded e count le
+bounded (spoiled h) le = tt
+bounded {lets = lets} {count = count} (item {p = p} {r = r} k h other fits x) le =
+    more_bounded count (length (replaced lets k)) (items_at p.line p.from p.to (replaced lets k)) r (length-map (replaced lets k) (item_at p.line p.from p.to)) (bounded x fits)
+bounded (too_many k h other more) le = tt
+bounded (declared k d h known is x) le = bounded x le
+bounded (undeclared k h known is) le = tt
+
+pub at_most_limit : {e : End} {lets : Lets} {ps : List Piece} {is : List Item} → Expands e lets 0 ps (Ok is) → length is ≤ 65535
+at_most_limit x = let h = bounded x (omega arith) in omega arith
 
 -- ---- the loop over the pieces
 

@@ -88,4 +88,3 @@ neq_eqb a b h = go (eqb a b) refl
 -- what the code calls the rest
 pub tail_is : (xs : List ℕ) (k : ℕ) → take (length xs - k) (drop k xs) ≡ drop k xs
 tail_is xs k = subst (λ (n : ℕ). take n (drop k xs) ≡ drop k xs) (length-drop k xs) (take-length (drop k xs))
-

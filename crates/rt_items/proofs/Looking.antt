@@ -1,16 +1,15 @@
 -- What the code sees at a place.
-use Rattle.std.proofs.Common.{◌≡◌, ℕ, ◌+◌, ◌-◌, ◌*◌, ◌<◌, ◌≤◌, List, [], ◌∷◌, length, take, drop, Option, Some, None, refl, sym, ap, subst, ◌∙◌, arith, length-drop}
+use Rattle.std.proofs.Common.{◌≡◌, ℕ, ◌+◌, ◌-◌, ◌*◌, ◌<◌, ◌≤◌, List, length, take, drop, Option, Some, None, sym, ap, subst, ◌∙◌, arith, length-drop}
 use Rattle.rt_items.specs.declared.number.Base.{Base}
 use Rattle.rt_items.specs.declared.number.Opened.{Opened}
 use Rattle.rt_items.specs.declared.step.Step.{Step}
 use Rattle.rt_items.specs.declared.step.Step.TheVariants as step
 use Rattle.rt_items.specs.declared.cut.Cursor.{Cursor}
-use Rattle.rt_items.specs.declared.cut.Found.{Found}
 use Rattle.rt_items.specs.declared.cut.Seen.{Seen}
 use Rattle.rt_items.specs.declared.cut.Seen.TheVariants as seen
 use Rattle.rt_items.specs.Pieces.{base_of}
 use Rattle.rt_items.specs.Cutting.{Piece, place, piece_at, digits_of}
-use Rattle.rt_items.specs.Reading.{next_step, IsWithin, IsInside, SeesAt, GoesOn, Cuts, before, cuts_of, cuts_at, weight, pending, found_piece}
+use Rattle.rt_items.specs.Reading.{next_step, IsWithin, IsInside, SeesAt, GoesOn, before, cuts_of, cuts_at, weight, pending}
 use Rattle.rt_items.proofs.Steps.{step_within}
 use Rattle.rt_items.proofs.Cuts.{cuts_skip, cuts_base, cuts_piece, cuts_digits}
 
@@ -38,7 +37,7 @@ pub skip_goes : (total : ℕ) (o : Option Opened) (n : ℕ) (bytes : List ℕ) (
 skip_goes total o n bytes len lines next is h inside o-is n-is rest-is = record {
   cuts = cuts_skip total o n bytes len lines is h.0 h.1 ∙ there total o (n + lines) (drop len bytes) next o-is n-is rest-is;
   inside = let few = h.2 in inside_there total n (n + lines) len bytes next inside (omega arith) (omega arith) h.1 n-is rest-is;
-  smaller = let some = h.0 in weight_there o o len bytes next h.1 (omega arith) o-is rest-is
+  smaller = let some = h.0 in weight_there o o len bytes next h.1 (omega arith) o-is rest-is;
 }
 
 pub base_goes : (total : ℕ) (o : Option Opened) (n : ℕ) (bytes : List ℕ) (len : ℕ) (b : Base) (next : Cursor) → o ≡ None → step.Cut len ≡ next_step o bytes → IsWithin o (length bytes) (step.Cut len) → IsInside total n bytes → base_of (take len bytes) ≡ Some b
@@ -50,7 +49,7 @@ base_goes total o n bytes len b next none is h inside k o-is n-is rest-is =
     plain is h = let some = h.0 in record {
       cuts = cuts_base total n bytes len b is (omega arith) h.1 k ∙ there total (Some (record { base = b; line = n; from = place total bytes })) n (drop len bytes) next o-is n-is rest-is;
       inside = inside_there total n n len bytes next inside (omega arith) (omega arith) h.1 n-is rest-is;
-      smaller = weight_there None (Some (record { base = b; line = n; from = place total bytes })) len bytes next h.1 (omega arith) o-is rest-is
+      smaller = weight_there None (Some (record { base = b; line = n; from = place total bytes })) len bytes next h.1 (omega arith) o-is rest-is;
     }
 
 pub piece_goes : (total : ℕ) (o : Option Opened) (n : ℕ) (bytes : List ℕ) (len : ℕ) (p : Piece) (next : Cursor) → o ≡ None → step.Cut len ≡ next_step o bytes → IsWithin o (length bytes) (step.Cut len) → IsInside total n bytes → base_of (take len bytes) ≡ None
@@ -62,7 +61,7 @@ piece_goes total o n bytes len p next none is h inside k p-is o-is n-is rest-is 
     plain is h = let some = h.0 in record {
       cuts = cuts_piece total n bytes len is (omega arith) h.1 k ∙ ap (λ (t : Piece). before t (cuts_of total None n (drop len bytes))) (sym p-is) ∙ ap (before p) (there total None n (drop len bytes) next o-is n-is rest-is);
       inside = inside_there total n n len bytes next inside (omega arith) (omega arith) h.1 n-is rest-is;
-      smaller = weight_there None None len bytes next h.1 (omega arith) o-is rest-is
+      smaller = weight_there None None len bytes next h.1 (omega arith) o-is rest-is;
     }
 
 pub digits_go : (total : ℕ) (o : Option Opened) (x : Opened) (n : ℕ) (bytes : List ℕ) (len : ℕ) (p : Piece) (next : Cursor) → o ≡ Some x → step.Cut len ≡ next_step o bytes → IsWithin o (length bytes) (step.Cut len) → IsInside total n bytes
@@ -74,7 +73,7 @@ digits_go total o x n bytes len p next some is h inside p-is o-is n-is rest-is =
     plain is h = record {
       cuts = cuts_digits total n x bytes len is h.1 ∙ ap (λ (t : Piece). before t (cuts_of total None n (drop len bytes))) (sym p-is) ∙ ap (before p) (there total None n (drop len bytes) next o-is n-is rest-is);
       inside = inside_there total n n len bytes next inside (omega arith) (omega arith) h.1 n-is rest-is;
-      smaller = weight_there (Some x) None len bytes next h.1 (omega arith) o-is rest-is
+      smaller = weight_there (Some x) None len bytes next h.1 (omega arith) o-is rest-is;
     }
 
 -- what is seen from a place that the cut comes to is seen before

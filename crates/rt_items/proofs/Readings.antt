@@ -1,5 +1,5 @@
 -- Each text has one reading.
-use Rattle.std.proofs.Common.{◌≡◌, ◌≢◌, ℕ, List, [], length, Option, None, Result, Ok, Err, ◌⊎◌, inl, inr, refl, sym, ap, subst, ◌∙◌}
+use Rattle.std.proofs.Common.{◌≡◌, ◌≢◌, ℕ, ◌≤◌, List, [], length, None, Ok, Err, ◌⊎◌, inl, inr, refl, sym, ap, subst, ◌∙◌}
 use Rattle.std.specs.Prelude.{IfOk, IfErr}
 use Rattle.rt_items.specs.declared.item.Item.{Item}
 use Rattle.rt_items.specs.declared.fault.TextFault.{TextFault}
@@ -7,11 +7,11 @@ use Rattle.rt_items.specs.declared.fault.TextFault.TheVariants.{Memory}
 use Rattle.rt_items.specs.declared.expand.State.{State}
 use Rattle.rt_items.specs.declared.expand.State.TheVariants.{Plain, Behind, Named, Within}
 use Rattle.rt_items.specs.Texts.{Lets}
-use Rattle.rt_items.specs.Cutting.{Piece, End, Clean, Stops}
+use Rattle.rt_items.specs.Cutting.{Clean, Stops}
 use Rattle.rt_items.specs.Lets.{Reading, Items, no_lets, with_items, HaveOneReading, HaveSomeReading}
 use Rattle.rt_items.specs.Reading.{Answers, Cuts, cuts_of, end_of, expand, reading_from, reading_of}
 use Rattle.rt_items.proofs.Cuts.{cuts_cut, cuts_only}
-use Rattle.rt_items.proofs.Expanding.{with_none, expand_sound, expand_complete, answers_same}
+use Rattle.rt_items.proofs.Expanding.{with_none, expand_sound, expand_complete, answers_same, at_most_limit}
 
 reads_it : (bytes : List ℕ) → Items bytes (reading_of bytes)
 unfolding reading_of
@@ -42,6 +42,10 @@ pub only_by : (bytes : List ℕ) (answer : Reading) → Answers (reading_of byte
 only_by bytes (Ok is) h r reads = inr (sym h ∙ sym (only_it bytes r reads))
 only_by bytes (Err Memory) h r reads = inl refl
 only_by bytes (Err f) h r reads = inr (sym h ∙ sym (only_it bytes r reads))
+
+pub limit_by : (bytes : List ℕ) (answer : Reading) → Answers (reading_of bytes) answer → IfOk answer (λ is. length is ≤ 65535)
+limit_by bytes (Ok is) h = let reads : Items bytes (Ok is) = subst (λ (r : Reading). Items bytes r) h (reads_it bytes) in at_most_limit reads.3
+limit_by bytes (Err f) h = tt
 
 -- ---- the loop
 

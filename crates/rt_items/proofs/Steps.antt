@@ -1,5 +1,5 @@
 -- What each step of the cut sees, and that no other step is one.
-use Rattle.std.proofs.Common.{◌≡◌, ◌≢◌, ℕ, zero, suc, ◌+◌, ◌-◌, ◌<◌, ◌≤◌, Bool, true, false, not, cond, eqb, ◌&&◌, ◌||◌, List, [], ◌∷◌, ◌++◌, length, take, drop, Option, Some, None, is_some, ◌⊎◌, inl, inr, refl, sym, ap, subst, ◌∙◌, arith, length-append, append_assoc, length-drop}
+use Rattle.std.proofs.Common.{◌≡◌, ◌≢◌, ℕ, suc, ◌+◌, ◌≤◌, Bool, true, false, not, cond, eqb, ◌&&◌, ◌||◌, List, [], ◌∷◌, ◌++◌, length, take, drop, Option, Some, None, is_some, ◌⊎◌, inl, inr, refl, sym, ap, subst, ◌∙◌, arith, length-append, append_assoc}
 use Rattle.std.specs.Prelude.{take_while}
 use Rattle.std.proofs.lemmas.Bool.Decides.{nat_tests}
 use Rattle.std.proofs.lemmas.Bool.{eqb-true, eq-eqb}
@@ -12,7 +12,7 @@ use Rattle.rt_items.specs.Bytes.{is_blank, is_letter, is_digit, is_letter_or_dig
 use Rattle.rt_items.specs.Pieces.{mark_of, mark_of_one, mark_of_two, mark_of_three, IsName, IsNumber, IsCharacter, IsString, IsMark, IsPiece}
 use Rattle.rt_items.specs.Cutting.{begins_gap}
 use Rattle.rt_items.specs.Reading.{comment_step, character_step, string_end, string_step, one_step, two_step, mark_step, step_of, digits_step, next_step, pending, IsWithin}
-use Rattle.rt_items.proofs.Fronts.{front, front_is, while_each, each_front, ends_front, parts_front, front_length, true_false, differ, head_of, whole_front, drop_comment, neq_eqb}
+use Rattle.rt_items.proofs.Fronts.{front, while_each, each_front, ends_front, parts_front, front_length, true_false, differ, head_of, whole_front, neq_eqb}
 
 -- ---- marks
 
@@ -145,6 +145,7 @@ sees_string bs = subst (λ (n : ℕ). Sees None (34 ∷ bs) (string_end n (drop 
       where
         parts : bs ≡ front in_string bs ++ c ∷ cs
         parts = sym (parts_front in_string bs) ∙ ap (λ (t : List ℕ). front in_string bs ++ t) e
+
         by_byte : (t : Bool) → eqb c 34 ≡ t → Sees None (34 ∷ bs) (cond t (step.Cut (length (front in_string bs) + 2)) (step.Cut (length (front in_string bs) + 1)))
         by_byte true q =
             let is = eqb-true c 34 q in
@@ -259,12 +260,15 @@ open_cut body rest each ends =
     or_right : (a b : Bool) → (a || b) ≡ false → b ≡ false
     or_right true b h = absurd (true_false true refl h)
     or_right false b h = h
+
     or_left : (a b : Bool) → (a || b) ≡ false → a ≡ false
     or_left true b h = h
     or_left false b h = refl
+
     no_more : (rest : List ℕ) → Ends (λ b. eqb b 34 || in_string b) rest → Ends in_string rest
     no_more [] h = tt
     no_more (c ∷ cs) h = or_right (eqb c 34) (in_string c) h
+
     at_end : (rest : List ℕ) → Ends (λ b. eqb b 34 || in_string b) rest → string_end (length body) rest ≡ step.Cut (length body + 1)
     at_end [] h = refl
     at_end (c ∷ cs) h = rw (or_left (eqb c 34) (in_string c) h) refl
@@ -352,6 +356,7 @@ run_step [] (b ∷ bs) gap each ends =
     gap_left : (p q : Bool) → (p || q) ≡ false → p ≡ false
     gap_left true q h = h
     gap_left false q h = refl
+
     gap_right : (p q : Bool) → (p || q) ≡ false → q ≡ false
     gap_right true q h = absurd (true_false true refl h)
     gap_right false q h = h

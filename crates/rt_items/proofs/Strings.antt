@@ -1,14 +1,14 @@
 -- The parts of a string, and what they give.
-use Rattle.std.proofs.Common.{◌≡◌, ℕ, suc, ◌+◌, ◌-◌, ◌<◌, ◌≤◌, Bool, true, false, not, eqb, List, [], ◌∷◌, ◌++◌, length, take, drop, Option, Some, None, Result, Ok, Err, refl, sym, ap, subst, ◌∙◌, arith, length-append, length-drop, append_assoc}
+use Rattle.std.proofs.Common.{◌≡◌, ℕ, ◌+◌, ◌<◌, Bool, true, false, not, eqb, List, [], ◌∷◌, ◌++◌, length, take, drop, Option, Some, None, Result, Ok, Err, refl, sym, ap, subst, ◌∙◌, arith, length-append, length-drop, append_assoc}
 use Rattle.std.specs.Prelude.{take_while, nat_lt}
 use Rattle.std.proofs.lemmas.Bool.{eqb-true, eq-eqb}
-use Rattle.std.proofs.lemmas.List.{take_at, drop_at, append-nil}
+use Rattle.std.proofs.lemmas.List.{take_at, drop_at}
 use Rattle.rt_items.specs.declared.fault.TextFault.{TextFault}
 use Rattle.rt_items.specs.declared.fault.TextFault.TheVariants.{Memory, BadCharacter}
 use Rattle.rt_items.specs.Bytes.{is_printable, in_string, Each, Ends}
-use Rattle.rt_items.specs.Texts.{Lets, Given, followed, behind_fault, with_bytes, Gives, parts, onto_first, characters, value, value_in, past_blanks, values, in_turn, from_insert, closing, failing, unfinished, result_map, PairGives, InsertGives, limited, string_of}
+use Rattle.rt_items.specs.Texts.{Lets, Given, followed, behind_fault, with_bytes, Gives, parts, onto_first, characters, value, values, in_turn, from_insert, closing, failing, unfinished, result_map, PairGives, InsertGives, limited, string_of}
 use Rattle.rt_items.specs.Reading.{Answers}
-use Rattle.rt_items.proofs.Fronts.{front, front_is, front_length, each_front, ends_front, parts_front, whole_front, neq_eqb, tail_is}
+use Rattle.rt_items.proofs.Fronts.{front, front_is, front_length, each_front, ends_front, parts_front, whole_front, neq_eqb}
 
 abbrev given : List ℕ → Option TextFault → Given
 given bytes fault = record { bytes = bytes; fault = fault }
@@ -99,6 +99,7 @@ parts_more separator xs len is some =
   where
     shorter : (a b c : ℕ) → a + b ≡ c → (a ≡ c → ⊥) → a < c
     shorter a b c e h = omega arith
+
     behind : (body rest : List ℕ) → drop (length body + 1) (body ++ separator ∷ rest) ≡ rest
     behind body rest =
         let one : length body + 1 ≡ length (body ++ separator ∷ []) = omega (arith, length-append body (separator ∷ [])) in
@@ -199,9 +200,10 @@ module _ (lets : Lets) (n : ℕ) (closed : Bool) (bytes old new : List ℕ) (len
       as_insert f h = h
 
   pub insert_goes : (after : List ℕ) → after ≡ drop (len + 1) bytes → (len ≡ length bytes → ⊥) → Gives (with_bytes old (values lets n true (parts 44 (take len bytes)))) new (Ok tt) → InsertGives lets n closed bytes old new (Ok (Some after))
-  insert_goes after is some h =
-      (insert_is some ∙ goes_on old new (values lets n true (parts 44 (take len bytes))) (in_turn lets n closed (parts 35 (drop (len + 1) bytes))) h ∙ ap (λ (t : List ℕ). with_bytes new (in_turn lets n closed (parts 35 t))) (sym is),
-       subst (λ (t : List ℕ). length t < length bytes) (sym is) (shorter some))
+  insert_goes after is some h = (
+    insert_is some ∙ goes_on old new (values lets n true (parts 44 (take len bytes))) (in_turn lets n closed (parts 35 (drop (len + 1) bytes))) h ∙ ap (λ (t : List ℕ). with_bytes new (in_turn lets n closed (parts 35 t))) (sym is),
+    subst (λ (t : List ℕ). length t < length bytes) (sym is) (shorter some),
+  )
 
 module _ (lets : Lets) (n : ℕ) (closed : Bool) (bytes old middle new : List ℕ) (len : ℕ) (len-is : len ≡ length (take_while (λ b. not (eqb b 35)) bytes)) (some : len ≡ length bytes → ⊥) where
   pub pair_goes : (after : List ℕ) (r : Result (Option (List ℕ)) TextFault) → after ≡ drop (len + 1) bytes → Gives (with_bytes old (characters n (take len bytes))) middle (Ok tt) → InsertGives lets n closed after middle new r → PairGives lets n closed bytes old new r

@@ -1,5 +1,5 @@
 -- The cut of a text into layout, comments and pieces, each piece the longest that begins there.
-use Rattle.std.specs.Prelude.{◌≡◌, ◌≢◌, ℕ, zero, suc, ◌+◌, ◌-◌, Bool, true, false, ◌||◌, ◌==◌, if◌then◌else◌, List, [], ◌∷◌, ◌++◌, length, Option, Some, None}
+use Rattle.std.specs.Prelude.{◌≡◌, ◌≢◌, ℕ, ◌+◌, ◌-◌, Bool, true, false, ◌||◌, ◌==◌, List, [], ◌∷◌, ◌++◌, length, Option, Some, None}
 use Rattle.rt_items.specs.declared.number.Base.{Base}
 use Rattle.rt_items.specs.declared.number.Opened.{Opened}
 use Rattle.rt_items.specs.declared.fault.TextFault.{TextFault}

@@ -77,15 +77,41 @@ fn cut_piece<'a>(total: usize, cursor: Cursor<'a>, len: usize) -> Seen<'a>
     let rest = &cursor.rest[len..];
     let from = (total - cursor.rest.len()) as u32;
     let to = (total - rest.len()) as u32;
-    let after = Cursor { opened: None, line, rest };
+    let after = Cursor {
+        opened: None,
+        line,
+        rest,
+    };
     match cursor.opened {
         Some(opened) => {
-            let span = Span { line: opened.line, from: opened.from, to };
-            Seen::Piece(Found { base: Some(opened.base), text, span }, after)
+            let span = Span {
+                line: opened.line,
+                from: opened.from,
+                to,
+            };
+            Seen::Piece(
+                Found {
+                    base: Some(opened.base),
+                    text,
+                    span,
+                },
+                after,
+            )
         }
         None => match base_of(text) {
-            Some(base) => Seen::Gap(Cursor { opened: Some(Opened { base, line, from }), line, rest }),
-            None => Seen::Piece(Found { base: None, text, span: Span { line, from, to } }, after),
+            Some(base) => Seen::Gap(Cursor {
+                opened: Some(Opened { base, line, from }),
+                line,
+                rest,
+            }),
+            None => Seen::Piece(
+                Found {
+                    base: None,
+                    text,
+                    span: Span { line, from, to },
+                },
+                after,
+            ),
         },
     }
 }
@@ -101,7 +127,11 @@ fn look<'a>(total: usize, cursor: Cursor<'a>) -> Seen<'a>
         Step::Bad => Seen::Fault(TextFault::BadCharacter(cursor.line)),
         Step::Skip(len, lines) => {
             let line = cursor.line + lines as u32;
-            Seen::Gap(Cursor { opened: cursor.opened, line, rest: &cursor.rest[len..] })
+            Seen::Gap(Cursor {
+                opened: cursor.opened,
+                line,
+                rest: &cursor.rest[len..],
+            })
         }
         Step::Cut(len) => cut_piece(total, cursor, len),
     }

@@ -63,7 +63,12 @@ fn push_items(
 {
     for kind in kinds {
         let kind = copy_kind(alloc, kind)?;
-        out.push(Item { kind, line: span.line, from: span.from, to: span.to })?;
+        out.push(Item {
+            kind,
+            line: span.line,
+            from: span.from,
+            to: span.to,
+        })?;
     }
     Ok(())
 }
@@ -128,7 +133,12 @@ fn add_item(
             if count >= 65535 {
                 return Err(TextFault::TooManyItems(span.line));
             }
-            out.push(Item { kind, line: span.line, from: span.from, to: span.to })?;
+            out.push(Item {
+                kind,
+                line: span.line,
+                from: span.from,
+                to: span.to,
+            })?;
             Ok(())
         }
     }

@@ -18,3 +18,6 @@ mod word;
 pub use fault::TextFault;
 pub use item::{Item, ItemKind, Mark, Word};
 pub use read::{items, one_reading};
+
+#[cfg(test)]
+mod tests;

@@ -35,7 +35,11 @@ pub fn radix(base: Base) -> u32
 pub fn digit_value(b: u8) -> u8
     ensures { result ≡ spec.digit_value b }
 {
-    if is_digit(b) { b - 48 } else { upper(b).saturating_sub(55) }
+    if is_digit(b) {
+        b - 48
+    } else {
+        upper(b).saturating_sub(55)
+    }
 }
 
 pub fn is_digit_of(base: u32, b: u8) -> bool

@@ -38,7 +38,11 @@ fn read(alloc: Global, bytes: &[u8]) -> Result<List<Item>, TextFault>
     let mut table = empty_table(alloc);
     let mut out = List::new(alloc, 0)?;
     let mut state = State::Plain;
-    let mut cursor = Cursor { opened: None, line: 1, rest: bytes };
+    let mut cursor = Cursor {
+        opened: None,
+        line: 1,
+        rest: bytes,
+    };
     loop {
         match next_piece(total, cursor) {
             Seen::End => return finish(state, out),
@@ -62,6 +66,7 @@ pub fn items(alloc: Global, bytes: &[u8]) -> Result<List<Item>, TextFault>
     ensures found { IfOk result (λ is. Items bytes.now (Ok is)) }
     // A fault is the text's first, with its line.
     ensures fault { IfErr result (λ f. f ≢ TextFault.Memory → Items bytes.now (Err f)) }
+    ensures limit { IfOk result (λ is. length is ≤ 65535) }
     // What the text has is answered, unless memory runs out.
     ensures only { (r : Reading) → Items bytes.now r → (result ≡ Err TextFault.Memory) ⊎ (result ≡ r) }
 {

@@ -98,13 +98,21 @@ fn string_step(bytes: &[u8]) -> Step
 fn one_step(a: u8) -> Step
     ensures { result ≡ spec.one_step a }
 {
-    if mark_of_one(a).is_some() { Step::Cut(1) } else { Step::Bad }
+    if mark_of_one(a).is_some() {
+        Step::Cut(1)
+    } else {
+        Step::Bad
+    }
 }
 
 fn two_step(a: u8, b: u8) -> Step
     ensures { result ≡ spec.two_step a b }
 {
-    if mark_of_two(a, b).is_some() { Step::Cut(2) } else { one_step(a) }
+    if mark_of_two(a, b).is_some() {
+        Step::Cut(2)
+    } else {
+        one_step(a)
+    }
 }
 
 fn mark_step(a: u8, bytes: &[u8]) -> Step

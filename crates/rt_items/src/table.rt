@@ -18,7 +18,9 @@ pub struct LetTable {
 pub fn empty_table(alloc: Global) -> LetTable
     ensures { (q : List ℕ) → lets_of result q ≡ no_lets q }
 {
-    LetTable { texts: BTreeMap::new(alloc) }
+    LetTable {
+        texts: BTreeMap::new(alloc),
+    }
 }
 
 pub fn text_of<'a>(table: &'a LetTable, name: &[u8]) -> Option<&'a [ItemKind]>

@@ -83,7 +83,11 @@ fn nothing_more(out: &mut Text, line: u32, bytes: &[u8]) -> Result<(), TextFault
 fn small(value: u32) -> Option<u8>
     ensures { result ≡ spec.small value }
 {
-    if value <= 255 { Some(value as u8) } else { None }
+    if value <= 255 {
+        Some(value as u8)
+    } else {
+        None
+    }
 }
 
 fn one_number(text: Option<&[ItemKind]>) -> Option<u8>

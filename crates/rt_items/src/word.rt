@@ -132,5 +132,8 @@ impl Word {
 pub fn word_of(text: &[u8]) -> Option<Word>
     ensures { result ≡ pieces.word_of text.now }
 {
-    WORDS.iter().copied().find(|word| same(word.spelling(), text))
+    WORDS
+        .iter()
+        .copied()
+        .find(|word| same(word.spelling(), text))
 }

@@ -19,6 +19,8 @@ loop-rest-preserved c =
     let rest = c.loop-rest.rest.now in
     let after = tail_is rest (c.part_len-len.result + 1) in
     let shorter = length-drop (c.part_len-len.result + 1) rest in
-    let least = c.loop-rest.invariant.1 in
-    (values_go (lets_of c.args.table.now) c.args.line c.args.closed c.args.out.now.items c.loop-rest.out.items c.value-in-loop-rest.new.out.items c.args.inside.now rest c.part_len-len.result c.part_len-len.ensures.part
-    c.loop-rest.invariant.0 _ after c.if-len-rest.false c.in-Ok.ensures, omega (arith, ap length after))
+    let least = c.loop-rest.invariant.1 in (
+      values_go (lets_of c.args.table.now) c.args.line c.args.closed c.args.out.now.items c.loop-rest.out.items c.value-in-loop-rest.new.out.items c.args.inside.now rest c.part_len-len.result c.part_len-len.ensures.part
+          c.loop-rest.invariant.0 _ after c.if-len-rest.false c.in-Ok.ensures,
+      omega (arith, ap length after),
+    )
