@@ -50,19 +50,14 @@ static WRONG_WORDS: [&[&str]; 21] = [
     &["gen", "1", "OUT"],
 ];
 
-/// Limits, and the status, the output and the report of hello's run.
-static LIMITS: [(&str, u8, &str, &str); 9] = [
+/// Limits, and the status, the output and the report of hello's run: the JSR of the entry, then for each statement MOV,
+/// JSR, TRAP and RTS, then the RTS of the root and the TRAP that ends the task. All but the MOV are steps.
+static LIMITS: [(&str, u8, &str, &str); 6] = [
     (
         "0",
         2,
         "",
         "STATUS 2\nINSTRUCTIONS 0\nSTEPS 0\nTASK MAIN READY\nTICKS 0\n",
-    ),
-    (
-        "1",
-        2,
-        "",
-        "STATUS 2\nINSTRUCTIONS 1\nSTEPS 1\nTASK MAIN READY\nTICKS 0\n",
     ),
     (
         "3",
@@ -71,16 +66,10 @@ static LIMITS: [(&str, u8, &str, &str); 9] = [
         "STATUS 2\nINSTRUCTIONS 3\nSTEPS 2\nTASK MAIN READY\nTICKS 0\n",
     ),
     (
-        "4",
+        "0000000004",
         2,
         "H",
         "STATUS 2\nINSTRUCTIONS 4\nSTEPS 3\nTASK MAIN READY\nTICKS 0\n",
-    ),
-    (
-        "0000000005",
-        2,
-        "H",
-        "STATUS 2\nINSTRUCTIONS 5\nSTEPS 4\nTASK MAIN READY\nTICKS 0\n",
     ),
     (
         "14",
@@ -90,12 +79,6 @@ static LIMITS: [(&str, u8, &str, &str); 9] = [
     ),
     (
         "15",
-        0,
-        "HI\n",
-        "STATUS 0\nINSTRUCTIONS 15\nSTEPS 12\nTASK MAIN ENDED\nTICKS 0\n",
-    ),
-    (
-        "16",
         0,
         "HI\n",
         "STATUS 0\nINSTRUCTIONS 15\nSTEPS 12\nTASK MAIN ENDED\nTICKS 0\n",
@@ -117,207 +100,67 @@ static IMAGE: [u8; 98] = [
     8, 0, 0, 0, 4, 0, 20, 0,
 ];
 
+const NO_SYSTEM: &str = "STATUS 20\nFAULT 20 H.SYS\n";
+
+const NO_TICKS: &str = "STATUS 20\nFAULT 20 H.TCK\n";
+
+const NO_MODULE: &str = "STATUS 20\nFAULT 20 HELLO.RTL\n";
+
 const BAD_SYSTEM: &str = "STATUS 13\nFAULT 13 H.SYS 50 LINE 1\n";
 
 const BAD_TICKS: &str = "STATUS 13\nFAULT 13 H.TCK 50 LINE 1\n";
 
 const LEFT_OUT: &str = "STATUS 11\nFAULT 11 HELLO.RTL 25 LINE 1 FORM 9\n";
 
-/// Texts that are refused, and the status and the report.
-static REFUSED: [(Texts, u8, &str); 27] = [
-    ([None, None, None], 20, "STATUS 20\nFAULT 20 H.SYS\n"),
-    (
-        [Some(SYSTEM), None, None],
-        20,
-        "STATUS 20\nFAULT 20 H.TCK\n",
-    ),
-    (
-        [Some(SYSTEM), Some(""), None],
-        20,
-        "STATUS 20\nFAULT 20 HELLO.RTL\n",
-    ),
+/// Texts of which several would be refused, and the status and the report of the first in its turn.
+static TURNS: [(Texts, u8, &str); 7] = [
+    ([None, None, None], 20, NO_SYSTEM),
+    ([None, Some("5"), Some("")], 20, NO_SYSTEM),
     ([Some(""), None, None], 13, BAD_SYSTEM),
-    (
-        [
-            Some("MODULE  HELLO.RTL\nTASK MAIN RRJOB ST 10\n"),
-            Some(""),
-            Some(MODULE),
-        ],
-        13,
-        BAD_SYSTEM,
-    ),
-    (
-        [
-            Some("MODULE HELLO.RTL\nTASK main RRJOB ST 10\n"),
-            Some(""),
-            Some(MODULE),
-        ],
-        13,
-        BAD_SYSTEM,
-    ),
-    (
-        [
-            Some("MODULE HELLO.RTL\r\nTASK MAIN RRJOB ST 10\r\n"),
-            Some(""),
-            Some(MODULE),
-        ],
-        13,
-        BAD_SYSTEM,
-    ),
-    (
-        [
-            Some("MODULE HELLO.RTL\nTASK MAIN RRJOB ST 10\nLIBRARY\n"),
-            Some(""),
-            Some(MODULE),
-        ],
-        13,
-        BAD_SYSTEM,
-    ),
-    (
-        [Some("MODULE HELLO.RTL\n"), Some(""), Some(MODULE)],
-        13,
-        BAD_SYSTEM,
-    ),
-    (
-        [
-            Some("OBJECT HELLO.RTL\nTASK MAIN RRJOB ST 10\n"),
-            Some(""),
-            Some(MODULE),
-        ],
-        13,
-        BAD_SYSTEM,
-    ),
-    (
-        [
-            Some("MODULE HELLO.RTL\nTASK MAIN RRJOB ST 0\n"),
-            Some(""),
-            Some(MODULE),
-        ],
-        13,
-        BAD_SYSTEM,
-    ),
-    (
-        [
-            Some("MODULE HELLO.RTL\nTASK MAIN RRJOB ST 256\n"),
-            Some(""),
-            Some(MODULE),
-        ],
-        13,
-        BAD_SYSTEM,
-    ),
-    (
-        [
-            Some("MODULE H.RTL\nTASK MAIN RRJOB ST 10\n"),
-            Some(""),
-            Some(MODULE),
-        ],
-        20,
-        "STATUS 20\nFAULT 20 H.RTL\n",
-    ),
+    ([Some(SYSTEM), None, Some("")], 20, NO_TICKS),
     ([Some(SYSTEM), Some("5"), None], 13, BAD_TICKS),
-    ([Some(SYSTEM), Some("5\n"), Some(MODULE)], 13, BAD_TICKS),
-    ([Some(SYSTEM), Some("\n"), Some(MODULE)], 13, BAD_TICKS),
-    ([Some(SYSTEM), Some(" "), Some("TITLE")], 13, BAD_TICKS),
+    ([Some(SYSTEM), Some(""), None], 20, NO_MODULE),
     ([Some(SYSTEM), Some(""), Some("")], 11, LEFT_OUT),
-    (
-        [
-            Some(SYSTEM),
-            Some(""),
-            Some(
-                "TITLE HELLO; SVC PROC(BYTE) RROUT; ENT STACK ST 3; ENT PROC RRJOB(); RROUT('H') ENDPROC;",
-            ),
-        ],
-        11,
-        LEFT_OUT,
-    ),
-    (
-        [
-            Some(SYSTEM),
-            Some(""),
-            Some(
-                "TITLE HELLO; SVC PROC(BYTE) RROUT; ENT STACK ST 1001; ENT PROC RRJOB(); RROUT('H') ENDPROC;",
-            ),
-        ],
-        11,
-        LEFT_OUT,
-    ),
-    (
-        [
-            Some(SYSTEM),
-            Some(""),
-            Some(
-                "TITLE HELLO; SVC PROC(BYTE) RROUT; ENT STACK ST 20; ENT PROC RRJOB(); RROUT(256) ENDPROC;",
-            ),
-        ],
-        11,
-        LEFT_OUT,
-    ),
-    (
-        [
-            Some(SYSTEM),
-            Some(""),
-            Some(
-                "TITLE HELLO; SVC PROC(BYTE) RROUT; ENT STACK ST 20; ENT PROC RRJOB(); RROUT('H')",
-            ),
-        ],
-        11,
-        LEFT_OUT,
-    ),
-    (
-        [
-            Some(SYSTEM),
-            Some(""),
-            Some(
-                "TITLE HELLO; SVC PROC(BYTE) RROUT; ENT STACK ST 20; ENT PROC JOB(); RROUT('H') ENDPROC;",
-            ),
-        ],
-        11,
-        LEFT_OUT,
-    ),
-    (
-        [
-            Some(SYSTEM),
-            Some(""),
-            Some(
-                "TITLE HELLO; SVC PROC(BYTE) RROUT; ENT STACK STACK 20; ENT PROC RRJOB(); RROUT('H') ENDPROC;",
-            ),
-        ],
-        11,
-        LEFT_OUT,
-    ),
-    (
-        [
-            Some(SYSTEM),
-            Some(""),
-            Some(
-                "TITLE HELLO; SVC PROC(BYTE) RROUT; DATA D; INT SUM := 65; ENDDATA; ENT STACK ST 20; ENT PROC RRJOB(); RROUT(SUM) ENDPROC;",
-            ),
-        ],
-        11,
-        LEFT_OUT,
-    ),
-    (
-        [
-            Some(SYSTEM),
-            Some(""),
-            Some(
-                "TITLE hello; SVC PROC(BYTE) RROUT; ENT STACK ST 20; ENT PROC RRJOB(); RROUT('H') ENDPROC;",
-            ),
-        ],
-        11,
-        LEFT_OUT,
-    ),
-    (
-        [
-            Some("MODULE HELLO.RTL\nTASK MAIN ST ST 10\n"),
-            Some(""),
-            Some(
-                "TITLE HELLO; SVC PROC(BYTE) RROUT; ENT STACK ST 20; ENT PROC ST(); RROUT('H') ENDPROC;",
-            ),
-        ],
-        11,
-        LEFT_OUT,
-    ),
+];
+
+static BAD_SYSTEMS: [&str; 9] = [
+    "MODULE  HELLO.RTL\nTASK MAIN RRJOB ST 10\n",
+    "MODULE HELLO.RTL\nTASK main RRJOB ST 10\n",
+    "MODULE HELLO.RTL\r\nTASK MAIN RRJOB ST 10\r\n",
+    "MODULE HELLO.RTL\nTASK MAIN RRJOB ST 10\nLIBRARY\n",
+    "MODULE HELLO.RTL\n",
+    "OBJECT HELLO.RTL\nTASK MAIN RRJOB ST 10\n",
+    "MODULE HELLO.RTL\nTASK MAIN RRJOB ST 0\n",
+    "MODULE HELLO.RTL\nTASK MAIN RRJOB ST 256\n",
+    "MODULE HELLO.RTL\nTASK MAIN RRJOB ENT 10\n",
+];
+
+static TICK_TEXTS: [&str; 5] = ["5", "5\n", "5\nX\n", "\n", " "];
+
+static BAD_MODULES: [&str; 9] = [
+    "TITLE T; SVC PROC(BYTE) RROUT; ENT STACK ST 3; ENT PROC RRJOB(); RROUT('H') ENDPROC;",
+    "TITLE T; SVC PROC(BYTE) RROUT; ENT STACK ST 1001; ENT PROC RRJOB(); RROUT('H') ENDPROC;",
+    "TITLE T; SVC PROC(BYTE) RROUT; ENT STACK ST 20; ENT PROC RRJOB(); RROUT(256) ENDPROC;",
+    "TITLE T; SVC PROC(BYTE) RROUT; ENT STACK ST 20; ENT PROC RRJOB(); RROUT('H')",
+    "TITLE T; SVC PROC(BYTE) RROUT; ENT STACK ST 20; ENT PROC JOB(); RROUT('H') ENDPROC;",
+    "TITLE T; SVC PROC(BYTE) RROUT; ENT STACK S 20; ENT PROC RRJOB(); RROUT('H') ENDPROC;",
+    "TITLE T; SVC PROC(BYTE) RROUT; ENT STACK ST 20; ENT PROC ST(); RROUT('H') ENDPROC;",
+    "TITLE t; SVC PROC(BYTE) RROUT; ENT STACK ST 20; ENT PROC RRJOB(); RROUT('H') ENDPROC;",
+    "TITLE T; SVC PROC(BYTE) RROUT; DATA D; INT N := 65; ENDDATA; ENT STACK ST 20; ENT PROC RRJOB(); RROUT(N) ENDPROC;",
+];
+
+const LONG_NAMED: &str = "MODULE LONG\nTASK MAIN RRJOB ST 10\n";
+
+const LONG_TEXT: &str = "STATUS 13\nFAULT 13 LONG 80\n";
+
+const LONG_MODULE: &str = "STATUS 11\nFAULT 11 LONG 80\n";
+
+/// The text of H.SYS, the system and the tick file of the words, and the status and the report, where the file LONG is
+/// too long.
+static TOO_LONG: [(&str, &str, &str, u8, &str); 3] = [
+    (SYSTEM, "LONG", "H.TCK", 13, LONG_TEXT),
+    (SYSTEM, "H.SYS", "LONG", 13, LONG_TEXT),
+    (LONG_NAMED, "H.SYS", "H.TCK", 11, LONG_MODULE),
 ];
 
 /// The texts, which calls of the store and which puts fail, and the status, the output, the report and whether the
@@ -332,67 +175,25 @@ type Fault = (
     bool,
 );
 
+const NO_FILES: Texts = [None, None, None];
+
+const ONE_TICK: Texts = [Some(SYSTEM), Some("5"), None];
+
+const NO_TITLE: Texts = [Some(SYSTEM), Some(""), Some("")];
+
 static FAULTS: [Fault; 13] = [
     // The reads of the three files in their turn.
-    (
-        HELLO,
-        &[1],
-        &[],
-        20,
-        "",
-        Some("STATUS 20\nFAULT 20 H.SYS\n"),
-        false,
-    ),
-    (
-        HELLO,
-        &[2],
-        &[],
-        20,
-        "",
-        Some("STATUS 20\nFAULT 20 H.TCK\n"),
-        false,
-    ),
-    (
-        HELLO,
-        &[3],
-        &[],
-        20,
-        "",
-        Some("STATUS 20\nFAULT 20 HELLO.RTL\n"),
-        false,
-    ),
+    (HELLO, &[1], &[], 20, "", Some(NO_SYSTEM), false),
+    (HELLO, &[2], &[], 20, "", Some(NO_TICKS), false),
+    (HELLO, &[3], &[], 20, "", Some(NO_MODULE), false),
     (HELLO, &[1, 2], &[], 21, "", None, false),
-    // The write of the image; that of the report of the run.
+    // The write of the image, and that of the report of the run.
     (HELLO, &[4], &[], 21, "", None, false),
     (HELLO, &[5], &[], 21, "HI\n", None, true),
     // The write of the report of a refusal.
-    (
-        [None, Some(""), Some(MODULE)],
-        &[2],
-        &[],
-        21,
-        "",
-        None,
-        false,
-    ),
-    (
-        [Some(SYSTEM), Some("5"), Some(MODULE)],
-        &[3],
-        &[],
-        21,
-        "",
-        None,
-        false,
-    ),
-    (
-        [Some(SYSTEM), Some(""), Some("")],
-        &[4],
-        &[],
-        21,
-        "",
-        None,
-        false,
-    ),
+    (NO_FILES, &[2], &[], 21, "", None, false),
+    (ONE_TICK, &[3], &[], 21, "", None, false),
+    (NO_TITLE, &[4], &[], 21, "", None, false),
     // The puts.
     (HELLO, &[], &[1], 21, "", None, true),
     (HELLO, &[], &[2], 21, "H", None, true),
@@ -520,11 +321,48 @@ fn wrong_limit(alloc: Global) -> Result<usize, Fail> {
     Ok(0)
 }
 
+fn is_refused(alloc: Global, texts: &Texts, status: u8, report: &str) -> Result<bool, Fail> {
+    let after = call(alloc, &GO, files_of(alloc, texts)?, &[], &[])?;
+    Ok(after.ends(status, "") && after.reports(Some(report)) && after.has_image(false))
+}
+
 /// The first texts that are answered otherwise.
-fn wrong_refusal(alloc: Global) -> Result<usize, Fail> {
-    for (at, (texts, status, report)) in REFUSED.iter().enumerate() {
-        let after = call(alloc, &GO, files_of(alloc, texts)?, &[], &[])?;
-        if !(after.ends(*status, "") && after.reports(Some(*report)) && after.has_image(false)) {
+fn wrong_turn(alloc: Global) -> Result<usize, Fail> {
+    for (at, (texts, status, report)) in TURNS.iter().enumerate() {
+        if !is_refused(alloc, texts, *status, report)? {
+            return Ok(at.saturating_add(1));
+        }
+    }
+    Ok(0)
+}
+
+/// The first system text that is answered otherwise.
+fn wrong_system(alloc: Global) -> Result<usize, Fail> {
+    for (at, text) in BAD_SYSTEMS.iter().enumerate() {
+        let texts = [Some(*text), Some(""), Some(MODULE)];
+        if !is_refused(alloc, &texts, 13, BAD_SYSTEM)? {
+            return Ok(at.saturating_add(1));
+        }
+    }
+    Ok(0)
+}
+
+/// The first tick text that is answered otherwise.
+fn wrong_ticks(alloc: Global) -> Result<usize, Fail> {
+    for (at, text) in TICK_TEXTS.iter().enumerate() {
+        let texts = [Some(SYSTEM), Some(*text), Some(MODULE)];
+        if !is_refused(alloc, &texts, 13, BAD_TICKS)? {
+            return Ok(at.saturating_add(1));
+        }
+    }
+    Ok(0)
+}
+
+/// The first module that is answered otherwise.
+fn wrong_module(alloc: Global) -> Result<usize, Fail> {
+    for (at, text) in BAD_MODULES.iter().enumerate() {
+        let texts = [Some(SYSTEM), Some(""), Some(*text)];
+        if !is_refused(alloc, &texts, 11, LEFT_OUT)? {
             return Ok(at.saturating_add(1));
         }
     }
@@ -542,7 +380,7 @@ fn wrong_fault(alloc: Global) -> Result<usize, Fail> {
     Ok(0)
 }
 
-/// The files of hello, with this system text, and a file LONG that is too long by one byte.
+/// The files of hello, with this system text, and the file LONG that is too long by one byte.
 fn with_long_file(alloc: Global, system: &'static str) -> Result<List<(Name, Bytes)>, Fail> {
     let mut files = files_of(alloc, &[Some(system), Some(""), Some(MODULE)])?;
     let bytes = Bytes::from_vec(vec![in alloc; b' '; LONGEST_FILE + 1]?);
@@ -550,15 +388,16 @@ fn with_long_file(alloc: Global, system: &'static str) -> Result<List<(Name, Byt
     Ok(files)
 }
 
-fn refuses_long_file(
-    alloc: Global,
-    system: &'static str,
-    words: &[&str],
-    status: u8,
-    report: &str,
-) -> Result<bool, Fail> {
-    let after = call(alloc, words, with_long_file(alloc, system)?, &[], &[])?;
-    Ok(after.ends(status, "") && after.reports(Some(report)) && after.has_image(false))
+/// The first place of a file that is too long where it is answered otherwise.
+fn wrong_long_file(alloc: Global) -> Result<usize, Fail> {
+    for (at, (text, system, ticks, status, report)) in TOO_LONG.iter().enumerate() {
+        let words = ["go", *system, *ticks, "100", "OUT"];
+        let after = call(alloc, &words, with_long_file(alloc, text)?, &[], &[])?;
+        if !(after.ends(*status, "") && after.reports(Some(*report)) && after.has_image(false)) {
+            return Ok(at.saturating_add(1));
+        }
+    }
+    Ok(0)
 }
 
 /// A module of so many statements.
@@ -604,7 +443,10 @@ fn words_of_no_command_are_refused(rt: HostRuntime) -> Result<(), Fail> {
 #[test]
 fn texts_are_refused_and_faults_answered(rt: HostRuntime) -> Result<(), Fail> {
     let alloc = rt.alloc();
-    assert_eq!(rt; wrong_refusal(alloc)?, 0);
+    assert_eq!(rt; wrong_turn(alloc)?, 0);
+    assert_eq!(rt; wrong_system(alloc)?, 0);
+    assert_eq!(rt; wrong_ticks(alloc)?, 0);
+    assert_eq!(rt; wrong_module(alloc)?, 0);
     assert_eq!(rt; wrong_fault(alloc)?, 0);
     Ok(())
 }
@@ -612,28 +454,7 @@ fn texts_are_refused_and_faults_answered(rt: HostRuntime) -> Result<(), Fail> {
 #[test]
 fn files_and_modules_at_their_limits(rt: HostRuntime) -> Result<(), Fail> {
     let alloc = rt.alloc();
-    let long_system = ["go", "LONG", "H.TCK", "100", "OUT"];
-    let long_ticks = ["go", "H.SYS", "LONG", "100", "OUT"];
-    let names_long = "MODULE LONG\nTASK MAIN RRJOB ST 10\n";
-    assert!(rt;
-        refuses_long_file(
-            alloc,
-            SYSTEM,
-            &long_system,
-            13,
-            "STATUS 13\nFAULT 13 LONG 80\n"
-        )?
-    );
-    assert!(rt;
-        refuses_long_file(
-            alloc,
-            SYSTEM,
-            &long_ticks,
-            13,
-            "STATUS 13\nFAULT 13 LONG 80\n"
-        )?
-    );
-    assert!(rt; refuses_long_file(alloc, names_long, &GO, 11, "STATUS 11\nFAULT 11 LONG 80\n")?);
+    assert_eq!(rt; wrong_long_file(alloc)?, 0);
     // A module of n statements has 5 n + 22 items, and 1,300 are the most.
     let most = run_long_module(alloc, 255)?;
     assert!(rt; most.status == 0 && most.output.written().len() == 255);
