@@ -5,7 +5,11 @@ use std::alloc::{AllocError, Global};
 use std::test::Fail;
 
 /// The texts of H.SYS, H.TCK and HELLO.RTL, where these files are there.
-type Texts = [Option<&'static str>; 3];
+type Texts = (
+    Option<&'static str>,
+    Option<&'static str>,
+    Option<&'static str>,
+);
 
 /// What stands after a call of `top`.
 #[derive(Drop)]
@@ -21,7 +25,7 @@ const SYSTEM: &str = "MODULE HELLO.RTL\nTASK MAIN RRJOB ST 10\n";
 const MODULE: &str =
     "TITLE HELLO; SVC PROC(BYTE) RROUT; ENT STACK ST 20; ENT PROC RRJOB(); RROUT('H'); RROUT('I'); RROUT(10) ENDPROC;";
 
-const HELLO: Texts = [Some(SYSTEM), Some(""), Some(MODULE)];
+const HELLO: Texts = (Some(SYSTEM), Some(""), Some(MODULE));
 
 const GO: [&str; 5] = ["go", "H.SYS", "H.TCK", "4000000000", "OUT"];
 
@@ -114,13 +118,13 @@ const LEFT_OUT: &str = "STATUS 11\nFAULT 11 HELLO.RTL 25 LINE 1 FORM 9\n";
 
 /// Texts of which several would be refused, and the status and the report of the first in its turn.
 static TURNS: [(Texts, u8, &str); 7] = [
-    ([None, None, None], 20, NO_SYSTEM),
-    ([None, Some("5"), Some("")], 20, NO_SYSTEM),
-    ([Some(""), None, None], 13, BAD_SYSTEM),
-    ([Some(SYSTEM), None, Some("")], 20, NO_TICKS),
-    ([Some(SYSTEM), Some("5"), None], 13, BAD_TICKS),
-    ([Some(SYSTEM), Some(""), None], 20, NO_MODULE),
-    ([Some(SYSTEM), Some(""), Some("")], 11, LEFT_OUT),
+    ((None, None, None), 20, NO_SYSTEM),
+    ((None, Some("5"), Some("")), 20, NO_SYSTEM),
+    ((Some(""), None, None), 13, BAD_SYSTEM),
+    ((Some(SYSTEM), None, Some("")), 20, NO_TICKS),
+    ((Some(SYSTEM), Some("5"), None), 13, BAD_TICKS),
+    ((Some(SYSTEM), Some(""), None), 20, NO_MODULE),
+    ((Some(SYSTEM), Some(""), Some("")), 11, LEFT_OUT),
 ];
 
 static BAD_SYSTEMS: [&str; 9] = [
@@ -175,11 +179,11 @@ type Fault = (
     bool,
 );
 
-const NO_FILES: Texts = [None, None, None];
+const NO_FILES: Texts = (None, None, None);
 
-const ONE_TICK: Texts = [Some(SYSTEM), Some("5"), None];
+const ONE_TICK: Texts = (Some(SYSTEM), Some("5"), None);
 
-const NO_TITLE: Texts = [Some(SYSTEM), Some(""), Some("")];
+const NO_TITLE: Texts = (Some(SYSTEM), Some(""), Some(""));
 
 static FAULTS: [Fault; 13] = [
     // The reads of the three files in their turn.
@@ -224,18 +228,28 @@ fn add(
     }
 }
 
-fn files_of(alloc: Global, texts: &Texts) -> Result<List<(Name, Bytes)>, Memory> {
-    let mut files = List::new(alloc, 0)?;
-    for (name, text) in ["H.SYS", "H.TCK", "HELLO.RTL"].iter().zip(texts) {
-        if let Some(text) = text {
-            add(
-                alloc,
-                &mut files,
-                name,
-                Bytes::from_slice(alloc, text.as_bytes())?,
-            )?;
-        }
+fn add_text(
+    alloc: Global,
+    files: &mut List<(Name, Bytes)>,
+    name: &str,
+    text: Option<&str>,
+) -> Result<(), Memory> {
+    match text {
+        Some(text) => add(
+            alloc,
+            files,
+            name,
+            Bytes::from_slice(alloc, text.as_bytes())?,
+        ),
+        None => Ok(()),
     }
+}
+
+fn files_of(alloc: Global, texts: &Texts) -> Result<List<(Name, Bytes)>, Memory> {
+    let mut files = List::new(alloc, 3)?;
+    add_text(alloc, &mut files, "H.SYS", texts.0)?;
+    add_text(alloc, &mut files, "H.TCK", texts.1)?;
+    add_text(alloc, &mut files, "HELLO.RTL", texts.2)?;
     Ok(files)
 }
 
@@ -339,7 +353,7 @@ fn wrong_turn(alloc: Global) -> Result<usize, Fail> {
 /// The first system text that is answered otherwise.
 fn wrong_system(alloc: Global) -> Result<usize, Fail> {
     for (at, text) in BAD_SYSTEMS.iter().enumerate() {
-        let texts = [Some(*text), Some(""), Some(MODULE)];
+        let texts = (Some(*text), Some(""), Some(MODULE));
         if !is_refused(alloc, &texts, 13, BAD_SYSTEM)? {
             return Ok(at.saturating_add(1));
         }
@@ -350,7 +364,7 @@ fn wrong_system(alloc: Global) -> Result<usize, Fail> {
 /// The first tick text that is answered otherwise.
 fn wrong_ticks(alloc: Global) -> Result<usize, Fail> {
     for (at, text) in TICK_TEXTS.iter().enumerate() {
-        let texts = [Some(SYSTEM), Some(*text), Some(MODULE)];
+        let texts = (Some(SYSTEM), Some(*text), Some(MODULE));
         if !is_refused(alloc, &texts, 13, BAD_TICKS)? {
             return Ok(at.saturating_add(1));
         }
@@ -361,7 +375,7 @@ fn wrong_ticks(alloc: Global) -> Result<usize, Fail> {
 /// The first module that is answered otherwise.
 fn wrong_module(alloc: Global) -> Result<usize, Fail> {
     for (at, text) in BAD_MODULES.iter().enumerate() {
-        let texts = [Some(SYSTEM), Some(""), Some(*text)];
+        let texts = (Some(SYSTEM), Some(""), Some(*text));
         if !is_refused(alloc, &texts, 11, LEFT_OUT)? {
             return Ok(at.saturating_add(1));
         }
@@ -382,7 +396,7 @@ fn wrong_fault(alloc: Global) -> Result<usize, Fail> {
 
 /// The files of hello, with this system text, and the file LONG that is too long by one byte.
 fn with_long_file(alloc: Global, system: &'static str) -> Result<List<(Name, Bytes)>, Fail> {
-    let mut files = files_of(alloc, &[Some(system), Some(""), Some(MODULE)])?;
+    let mut files = files_of(alloc, &(Some(system), Some(""), Some(MODULE)))?;
     let bytes = Bytes::from_vec(vec![in alloc; b' '; LONGEST_FILE + 1]?);
     add(alloc, &mut files, "LONG", bytes)?;
     Ok(files)
@@ -415,7 +429,7 @@ fn long_module(alloc: Global, statements: u32) -> Result<String, AllocError> {
 
 /// Runs a module of so many statements.
 fn run_long_module(alloc: Global, statements: u32) -> Result<After, Fail> {
-    let mut files = files_of(alloc, &[Some(SYSTEM), Some(""), None])?;
+    let mut files = files_of(alloc, &(Some(SYSTEM), Some(""), None))?;
     let text = long_module(alloc, statements)?;
     add(
         alloc,
