@@ -10,6 +10,7 @@ use rt_outside::{Store, StoreError};
 use rt_words::Bytes;
 use std::alloc::Global;
 use std::str;
+use thiserror::Error;
 
 /// A system that is accepted.
 #[derive(Drop)]
@@ -19,13 +20,16 @@ pub struct Accepted {
 }
 
 /// Why a system isn't accepted.
-#[derive(Drop)]
+#[derive(Debug, Drop, Error)]
 pub enum Unaccepted {
     /// Memory was wanted and isn't there.
+    #[error("out of memory")]
     Memory,
     /// The file is refused.
+    #[error("a file is refused")]
     Refused { refusal: Refusal, file: Bytes },
     /// The read of the file failed.
+    #[error("a file can't be read")]
     Unread { file: Bytes },
 }
 

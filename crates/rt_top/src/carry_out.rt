@@ -27,7 +27,13 @@ pub fn carry_out<S: Store, O: Sink>(
     requires fits { Fits accepted.now.module }
     requires urgent { 1 ≤ accepted.now.system.priority }
     requires prepared { IsPrepared (go_of go.now) (image_of accepted.now.system accepted.now.module) prepared.old }
-    ensures { (words : List (List ℕ)) (files : Option Files) (reads writes : List ℕ → ℕ) → S.files store.old ≡ files → ((n : List ℕ) → writes n ≤ S.write_faults store.old n) → IsGo words (go_of go.now) → Accepts files (go_of go.now) accepted.now.system accepted.now.module → Ends words (the_call files (S.files store.new) reads (S.read_faults store.new) writes (S.write_faults store.new) (O.written output.old) (O.written output.new) (O.faults output.old) (O.faults output.new)) result }
+    // So the whole call ends, whatever the files and counts were before it, as long as the files are still the same and no
+    // count has fallen since.
+    ensures { (words : List (List ℕ)) (files : Option Files) (reads writes : List ℕ → ℕ) →
+        S.files store.old ≡ files → ((n : List ℕ) → writes n ≤ S.write_faults store.old n) →
+        IsGo words (go_of go.now) → Accepts files (go_of go.now) accepted.now.system accepted.now.module →
+        Ends words (the_call files (S.files store.new) reads (S.read_faults store.new) writes (S.write_faults store.new)
+        (O.written output.old) (O.written output.new) (O.faults output.old) (O.faults output.new)) result }
 {
     match store.write(prepared.image_name.as_str(), prepared.spelling.as_slice()) {
         Ok(()) => {}

@@ -29,9 +29,17 @@ pub fn top<S: Store, I: Source, O: Sink>(
     output: &mut O,
 ) -> u8
     // The headline: accepts, runs, means and status where the texts are first; the refusals and the causes elsewhere.
-    ensures headline { Headline (map string_bytes words.now) (the_call (S.files store.old) (S.files store.new) (S.read_faults store.old) (S.read_faults store.new) (S.write_faults store.old) (S.write_faults store.new) (O.written output.old) (O.written output.new) (O.faults output.old) (O.faults output.new)) result }
+    ensures headline { Headline (map string_bytes words.now) (the_call (S.files store.old) (S.files store.new)
+        (S.read_faults store.old) (S.read_faults store.new)
+        (S.write_faults store.old) (S.write_faults store.new)
+        (O.written output.old) (O.written output.new)
+        (O.faults output.old) (O.faults output.new)) result }
     // Each answer with its cause and what stands then.
-    ensures ends { Ends (map string_bytes words.now) (the_call (S.files store.old) (S.files store.new) (S.read_faults store.old) (S.read_faults store.new) (S.write_faults store.old) (S.write_faults store.new) (O.written output.old) (O.written output.new) (O.faults output.old) (O.faults output.new)) result }
+    ensures ends { Ends (map string_bytes words.now) (the_call (S.files store.old) (S.files store.new)
+        (S.read_faults store.old) (S.read_faults store.new)
+        (S.write_faults store.old) (S.write_faults store.new)
+        (O.written output.old) (O.written output.new)
+        (O.faults output.old) (O.faults output.new)) result }
     // No system of this form reads the console.
     ensures input { input.new ≡ input.old }
 {
@@ -40,7 +48,11 @@ pub fn top<S: Store, I: Source, O: Sink>(
 
 // Does what the words say.
 fn obey<S: Store, O: Sink>(alloc: Global, words: &[String], store: &mut S, output: &mut O) -> u8
-    ensures { Ends (map string_bytes words.now) (the_call (S.files store.old) (S.files store.new) (S.read_faults store.old) (S.read_faults store.new) (S.write_faults store.old) (S.write_faults store.new) (O.written output.old) (O.written output.new) (O.faults output.old) (O.faults output.new)) result }
+    ensures { Ends (map string_bytes words.now) (the_call (S.files store.old) (S.files store.new)
+        (S.read_faults store.old) (S.read_faults store.new)
+        (S.write_faults store.old) (S.write_faults store.new)
+        (O.written output.old) (O.written output.new)
+        (O.faults output.old) (O.faults output.new)) result }
 {
     match read_go(words) {
         Some(go) => do_go(alloc, &go, store, output),
@@ -51,7 +63,12 @@ fn obey<S: Store, O: Sink>(alloc: Global, words: &[String], store: &mut S, outpu
 // Does `go`: accepts the system, or refuses it with a report.
 fn do_go<S: Store, O: Sink>(alloc: Global, go: &GoWords, store: &mut S, output: &mut O) -> u8
     requires { go.now.limit ≤ 4000000000 }
-    ensures { (words : List (List ℕ)) → IsGo words (go_of go.now) → Ends words (the_call (S.files store.old) (S.files store.new) (S.read_faults store.old) (S.read_faults store.new) (S.write_faults store.old) (S.write_faults store.new) (O.written output.old) (O.written output.new) (O.faults output.old) (O.faults output.new)) result }
+    ensures { (words : List (List ℕ)) → IsGo words (go_of go.now) →
+        Ends words (the_call (S.files store.old) (S.files store.new)
+        (S.read_faults store.old) (S.read_faults store.new)
+        (S.write_faults store.old) (S.write_faults store.new)
+        (O.written output.old) (O.written output.new)
+        (O.faults output.old) (O.faults output.new)) result }
 {
     match accept(alloc, store, go) {
         Ok(accepted) => match prepare(alloc, go, &accepted) {
@@ -70,7 +87,9 @@ fn do_go<S: Store, O: Sink>(alloc: Global, go: &GoWords, store: &mut S, output: 
 
 // Puts the fault line of words that no command has.
 fn refuse_words<O: Sink>(output: &mut O) -> u8
-    ensures { (words : List (List ℕ)) (files : Option Files) (reads writes : List ℕ → ℕ) → IsNoCommand words → Ends words (the_call files files reads reads writes writes (O.written output.old) (O.written output.new) (O.faults output.old) (O.faults output.new)) result }
+    ensures { (words : List (List ℕ)) (files : Option Files) (reads writes : List ℕ → ℕ) → IsNoCommand words →
+        Ends words (the_call files files reads reads writes writes
+        (O.written output.old) (O.written output.new) (O.faults output.old) (O.faults output.new)) result }
 {
     match put_all(output, b"FAULT 10\n") {
         Ok(()) => 10,

@@ -21,7 +21,15 @@ pub fn refuse<S: Store>(
     refusal: Refusal,
     file: &[u8],
 ) -> u8
-    ensures { (words : List (List ℕ)) (files : Option Files) (reads writes : List ℕ → ℕ) (written : Option (List ℕ)) (faults : ℕ) → S.files store.old ≡ files → ((n : List ℕ) → writes n ≤ S.write_faults store.old n) → IsGo words (go_of go.now) → (Refuses files (go_of go.now) refusal file.now) ⊎ ((refusal ≡ Refusal.NoFile) × IsInTurn files (go_of go.now) file.now × Rose (reads file.now) (S.read_faults store.old file.now)) → Ends words (the_call files (S.files store.new) reads (S.read_faults store.new) writes (S.write_faults store.new) written written faults faults) result }
+    // So the whole call ends, whatever the files and counts were before it, as long as the files are still the same and no
+    // count has fallen since: where the file is refused in its turn, or its read failed.
+    ensures { (words : List (List ℕ)) (files : Option Files) (reads writes : List ℕ → ℕ) (written : Option (List ℕ)) (faults : ℕ) →
+        S.files store.old ≡ files → ((n : List ℕ) → writes n ≤ S.write_faults store.old n) → IsGo words (go_of go.now) →
+        (Refuses files (go_of go.now) refusal file.now)
+        ⊎ ((refusal ≡ Refusal.NoFile) × IsInTurn files (go_of go.now) file.now
+        × Rose (reads file.now) (S.read_faults store.old file.now)) →
+        Ends words (the_call files (S.files store.new) reads (S.read_faults store.new) writes (S.write_faults store.new)
+        written written faults faults) result }
 {
     let text = match refusal_report(alloc, refusal, file) {
         Ok(text) => text,
