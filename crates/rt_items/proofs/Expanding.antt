@@ -7,13 +7,13 @@ use Rattle.rt_items.specs.declared.item.Item.{Item}
 use Rattle.rt_items.specs.declared.item.ItemKind.{ItemKind}
 use Rattle.rt_items.specs.declared.fault.TextFault.{TextFault}
 use Rattle.rt_items.specs.declared.fault.TextFault.TheVariants.{Memory, BadLet, TooManyItems}
-use Rattle.rt_items.specs.declared.expand.State.{State}
-use Rattle.rt_items.specs.declared.expand.State.TheVariants.{Plain, Behind, Named, Within}
+use Rattle.rt_items.specs.declared.expand.State.{State as Code}
 use Rattle.rt_items.specs.Texts.{Lets}
 use Rattle.rt_items.specs.Cutting.{Piece, End, Clean, Stops}
 use Rattle.rt_items.specs.Meaning.{Meant, meaning}
 use Rattle.rt_items.specs.Lets.{Reading, with_let, replaced, item_at, items_at, is_let, is_semicolon, is_equal, name_of, with_items, at_end, Declared, LetText, with_text, text_goes_on, text_piece, let_text, declares, behind_equal, behind_name, if_named, named_by, declaration, Expands, ended, spoiled, item, too_many, declared, undeclared}
-use Rattle.rt_items.specs.Reading.{Next, Goes, Fails, turn, turn_meant, within, after_turn, expand, Answers, Turns, Cuts, before, reading_from}
+use Rattle.rt_items.specs.Table.{Known, lets_of}
+use Rattle.rt_items.specs.Reading.{State, Plain, Behind, Named, Within, state_of, Next, Goes, Fails, turn, turn_meant, within, after_turn, expand, Answers, Turns, Cuts, before, reading_from}
 
 pub with_none : (r : Reading) → with_items [] r ≡ r
 with_none (Ok is) = refl
@@ -256,22 +256,22 @@ module _ (total : Reading) (out : List Item) (cuts : Cuts) (p : Piece) (others :
   unfolding expand
   one_turn = so_far ∙ ap (λ (c : Cuts). with_items out (reading_from c state lets (length out))) cut
 
-  pub turn_goes : (next : State) (lets2 : Lets) (out2 : List Item) → Turns (turn_meant state lets (length out) p.line p.from p.to (meaning lets p)) out lets2 out2 (Ok next) → total ≡ with_items out2 (reading_from others next lets2 (length out2))
-  turn_goes next lets2 out2 h = one_turn ∙ by_next (turn_meant state lets (length out) p.line p.from p.to (meaning lets p)) h
+  pub turn_goes : (next : Code) (table : Known) (out2 : List Item) → Turns (turn_meant state lets (length out) p.line p.from p.to (meaning lets p)) out table out2 (Ok next) → total ≡ with_items out2 (reading_from others (state_of table.text next) (lets_of table) (length out2))
+  turn_goes next table out2 h = one_turn ∙ by_next (turn_meant state lets (length out) p.line p.from p.to (meaning lets p)) h
     where
-      by_next : (t : Next) → Turns t out lets2 out2 (Ok next) → with_items out (after_turn (expand others.1 others.0) (length out) t) ≡ with_items out2 (reading_from others next lets2 (length out2))
+      by_next : (t : Next) → Turns t out table out2 (Ok next) → with_items out (after_turn (expand others.1 others.0) (length out) t) ≡ with_items out2 (reading_from others (state_of table.text next) (lets_of table) (length out2))
       by_next (Goes s l o) h =
-          let same : lets2 ≡ l = fun_ext h.1 in
+          let same : lets_of table ≡ l = fun_ext h.1 in
           let size : length out2 ≡ length out + length o = ap length h.2 ∙ length-append out o in
           sym (with_both out o (expand others.1 others.0 s l (length out + length o))) ∙ ap (λ (t : List Item). with_items t (expand others.1 others.0 s l (length out + length o))) (sym h.2)
           ∙ ap (λ (t : ℕ). with_items out2 (expand others.1 others.0 s l t)) (sym size) ∙ ap (λ (t : State). with_items out2 (expand others.1 others.0 t l (length out2))) (sym h.0)
-          ∙ ap (λ (t : Lets). with_items out2 (expand others.1 others.0 next t (length out2))) (sym same)
+          ∙ ap (λ (t : Lets). with_items out2 (expand others.1 others.0 (state_of table.text next) t (length out2))) (sym same)
       by_next (Fails g) h = absurd h
 
-  pub turn_fails : (f : TextFault) (lets2 : Lets) (out2 : List Item) → Turns (turn_meant state lets (length out) p.line p.from p.to (meaning lets p)) out lets2 out2 (Err f) → Answers total (Err f)
-  turn_fails Memory lets2 out2 h = tt
-  turn_fails f lets2 out2 h = one_turn ∙ by_next (turn_meant state lets (length out) p.line p.from p.to (meaning lets p)) h
+  pub turn_fails : (f : TextFault) (table : Known) (out2 : List Item) → Turns (turn_meant state lets (length out) p.line p.from p.to (meaning lets p)) out table out2 (Err f) → Answers total (Err f)
+  turn_fails Memory table out2 h = tt
+  turn_fails f table out2 h = one_turn ∙ by_next (turn_meant state lets (length out) p.line p.from p.to (meaning lets p)) h
     where
-      by_next : (t : Next) → Turns t out lets2 out2 (Err f) → with_items out (after_turn (expand others.1 others.0) (length out) t) ≡ Err f
+      by_next : (t : Next) → Turns t out table out2 (Err f) → with_items out (after_turn (expand others.1 others.0) (length out) t) ≡ Err f
       by_next (Goes s l o) h = absurd h
       by_next (Fails g) h = ap (λ (t : TextFault). let failed : Reading = Err t in failed) (sym h)

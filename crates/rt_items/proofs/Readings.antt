@@ -2,14 +2,15 @@
 use Rattle.std.proofs.Common.{◌≡◌, ◌≢◌, ℕ, ◌≤◌, List, [], length, None, Ok, Err, ◌⊎◌, inl, inr, refl, sym, ap, subst, ◌∙◌}
 use Rattle.std.specs.Prelude.{IfOk, IfErr}
 use Rattle.rt_items.specs.declared.item.Item.{Item}
+use Rattle.rt_items.specs.declared.item.ItemKind.{ItemKind}
 use Rattle.rt_items.specs.declared.fault.TextFault.{TextFault}
 use Rattle.rt_items.specs.declared.fault.TextFault.TheVariants.{Memory}
-use Rattle.rt_items.specs.declared.expand.State.{State}
-use Rattle.rt_items.specs.declared.expand.State.TheVariants.{Plain, Behind, Named, Within}
+use Rattle.rt_items.specs.declared.expand.State.{State as Code}
+use Rattle.rt_items.specs.declared.expand.State.TheVariants as code
 use Rattle.rt_items.specs.Texts.{Lets}
 use Rattle.rt_items.specs.Cutting.{Clean, Stops}
 use Rattle.rt_items.specs.Lets.{Reading, Items, no_lets, with_items, HaveOneReading, HaveSomeReading}
-use Rattle.rt_items.specs.Reading.{Answers, Cuts, cuts_of, end_of, expand, reading_from, reading_of}
+use Rattle.rt_items.specs.Reading.{State, Plain, Behind, Named, Within, state_of, Answers, Cuts, cuts_of, end_of, expand, reading_from, reading_of}
 use Rattle.rt_items.proofs.Cuts.{cuts_cut, cuts_only}
 use Rattle.rt_items.proofs.Expanding.{with_none, expand_sound, expand_complete, answers_same, at_most_limit}
 
@@ -57,14 +58,21 @@ begins bytes total out lets total-is out-is lets-is =
     ∙ ap (λ (t : Lets). with_items out (reading_from (cuts_of (length bytes) None 1 bytes) Plain t (length out))) (sym lets-is)
     ∙ ap (λ (t : ℕ). with_items out (reading_from (cuts_of t None 1 bytes) Plain lets (length out))) (sym total-is)
 
-module _ (whole : Reading) (out : List Item) (cuts : Cuts) (state : State) (lets : Lets) (so_far : whole ≡ with_items out (reading_from cuts state lets (length out))) where
-  pub ends_clean : (answer : Reading) → cuts ≡ ([], Clean) → answer ≡ with_items out (end_of state Clean) → Answers whole answer
+ends_same : (text : List ItemKind) (state : Code) → end_of (state_of [] state) Clean ≡ end_of (state_of text state) Clean
+ends_same text code.Plain = refl
+ends_same text (code.Behind n) = refl
+ends_same text (code.Named n name) = refl
+ends_same text (code.Within n name) = refl
+
+module _ (whole : Reading) (out : List Item) (cuts : Cuts) (text : List ItemKind) (found : Code) (lets : Lets) (so_far : whole ≡ with_items out (reading_from cuts (state_of text found) lets (length out))) where
+  pub ends_clean : (answer : Reading) → cuts ≡ ([], Clean) → answer ≡ with_items out (end_of (state_of [] found) Clean) → Answers whole answer
   unfolding expand
-  ends_clean answer cut is = answers_same whole answer (so_far ∙ ap (λ (c : Cuts). with_items out (reading_from c state lets (length out))) cut ∙ sym is)
+  ends_clean answer cut is =
+      answers_same whole answer (so_far ∙ ap (λ (c : Cuts). with_items out (reading_from c (state_of text found) lets (length out))) cut ∙ ap (with_items out) (sym (ends_same text found)) ∙ sym is)
 
   pub ends_badly : (f : TextFault) → cuts ≡ ([], Stops f) → Answers whole (Err f)
   unfolding expand
-  ends_badly f cut = answers_same whole (Err f) (so_far ∙ ap (λ (c : Cuts). with_items out (reading_from c state lets (length out))) cut ∙ by_state state)
+  ends_badly f cut = answers_same whole (Err f) (so_far ∙ ap (λ (c : Cuts). with_items out (reading_from c (state_of text found) lets (length out))) cut ∙ by_state (state_of text found))
     where
       by_state : (state : State) → with_items out (end_of state (Stops f)) ≡ Err f
       by_state Plain = refl

@@ -12,13 +12,14 @@ use Rattle.rt_items.specs.declared.cut.Cursor.{Cursor}
 use Rattle.rt_items.specs.declared.cut.Found.{Found}
 use Rattle.rt_items.specs.declared.cut.Seen.{Seen}
 use Rattle.rt_items.specs.declared.cut.Seen.TheVariants as seen
-use Rattle.rt_items.specs.declared.expand.State.{State}
-use Rattle.rt_items.specs.declared.expand.State.TheVariants.{Plain, Behind, Named, Within}
+use Rattle.rt_items.specs.declared.expand.State.{State as Code}
+use Rattle.rt_items.specs.declared.expand.State.TheVariants as code
 use Rattle.rt_items.specs.Bytes.{is_blank, is_letter, is_digit, is_letter_or_digit, is_printable, in_comment, in_string, lines_in}
 use Rattle.rt_items.specs.Pieces.{base_of, mark_of_one, mark_of_two, mark_of_three}
 use Rattle.rt_items.specs.Cutting.{Piece, End, Clean, Stops, piece_at, digits_of, place}
 use Rattle.rt_items.specs.Texts.{Lets}
 use Rattle.rt_items.specs.Meaning.{Meant, meaning}
+use Rattle.rt_items.specs.Table.{Known, lets_of}
 use Rattle.rt_items.specs.Lets.{Reading, no_lets, with_items, at_end, cut_off, replaced, items_at, with_let, is_let, is_semicolon, is_equal, name_of}
 
 -- ---- the cut
@@ -113,6 +114,20 @@ IsWithin o n step.Bad = Unit {0}
 
 -- ---- the LETs
 
+-- outside a LET, behind LET, behind its name, and in its text, with the line of LET
+pub data State : Type 0 where
+  Plain : State
+  Behind : (line : ℕ) → State
+  Named : (line : ℕ) (name : List ℕ) → State
+  Within : (line : ℕ) (name : List ℕ) (text : List ItemKind) → State
+
+-- the code's state, where the LET that is being read has this text
+abbrev pub state_of : List ItemKind → Code → State
+state_of text code.Plain = Plain
+state_of text (code.Behind n) = Behind n
+state_of text (code.Named n name) = Named n name
+state_of text (code.Within n name) = Within n name text
+
 pub data Next : Type 0 where
   Goes : (state : State) (lets : Lets) (out : List Item) → Next
   Fails : (fault : TextFault) → Next
@@ -165,13 +180,13 @@ Answers r (Err Memory) = Unit {0}
 Answers r answer = r ≡ answer
 
 -- what one turn leaves
-abbrev pub Turns : Next → List Item → Lets → List Item → Result State TextFault → Type 0
-Turns (Goes state lets out) before now_lets now (Ok found) = (found ≡ state) × ((q : List ℕ) → now_lets q ≡ lets q) × (now ≡ before ++ out)
-Turns (Goes state lets out) before now_lets now (Err Memory) = Unit {0}
-Turns (Goes state lets out) before now_lets now (Err f) = ⊥
-Turns (Fails g) before now_lets now (Ok found) = ⊥
-Turns (Fails g) before now_lets now (Err Memory) = Unit {0}
-Turns (Fails g) before now_lets now (Err f) = f ≡ g
+abbrev pub Turns : Next → List Item → Known → List Item → Result Code TextFault → Type 0
+Turns (Goes state lets out) before table now (Ok found) = (state_of table.text found ≡ state) × ((q : List ℕ) → lets_of table q ≡ lets q) × (now ≡ before ++ out)
+Turns (Goes state lets out) before table now (Err Memory) = Unit {0}
+Turns (Goes state lets out) before table now (Err f) = ⊥
+Turns (Fails g) before table now (Ok found) = ⊥
+Turns (Fails g) before table now (Err Memory) = Unit {0}
+Turns (Fails g) before table now (Err f) = f ≡ g
 
 -- ---- place by place
 

@@ -6,9 +6,9 @@ ghost use Rattle.rt_items.specs.Reading as spec;
 ghost use Rattle.rt_items.specs.Reading.{IsInside, IsNoGap, SeesAt, IsWithin};
 
 use crate::bytes::{same, upper};
-use crate::expand::Span;
 use crate::fault::TextFault;
 use crate::number::{Base, Opened};
+use crate::rope::Span;
 use crate::step::{Step, digits_step, step_of};
 
 /// A place in the text: the line, and what is left there; and BIN, OCT or HEX, where its digits are still to come.

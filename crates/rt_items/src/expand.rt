@@ -1,81 +1,36 @@
 //! LETs are taken out, and their names are replaced.
 
-ghost use Rattle.std.specs.Prelude.{◌≡◌, ◌++◌, [], length, IfOk, OnOk};
+ghost use Rattle.std.specs.Prelude.{◌≡◌, ◌++◌, [], length};
 ghost use Rattle.rt_items.specs.Lets as spec;
-ghost use Rattle.rt_items.specs.Lets.{no_lets};
 ghost use Rattle.rt_items.specs.Cutting.{Clean};
 ghost use Rattle.rt_items.specs.Reading as turns;
-ghost use Rattle.rt_items.specs.Reading.{Turns, end_of};
+ghost use Rattle.rt_items.specs.Reading.{Turns, end_of, state_of};
 ghost use Rattle.std.specs.Option.{option_map};
-ghost use Rattle.rt_items.specs.Table.{lets_of};
+ghost use Rattle.rt_items.specs.Ropes.{text_at};
+ghost use Rattle.rt_items.specs.Table.{lets_of, IsNamed, SameLets};
 
 use crate::fault::TextFault;
 use crate::item::{Item, ItemKind, Mark, Word};
-use crate::table::{LetTable, put, text_of};
-use rt_words::{List, Memory, Name};
+use crate::rope::Span;
+use crate::table::{
+    LetTable, add_own, add_use, begin, open_len, put, text_len, text_of, write_text,
+};
+use rt_words::{List, Name};
 use std::alloc::Global;
 
-/// Outside a LET, behind LET, behind its name, and in its text, with the line of LET.
+/// Outside a LET, behind LET, behind its name, and in its text (which the table has), with the line of LET.
 #[derive(Drop)]
 pub enum State {
     Plain,
     Behind(u32),
     Named(u32, Name),
-    Within(u32, Name, List<ItemKind>),
-}
-
-/// The line and the span of a piece.
-#[derive(Clone, Copy)]
-pub struct Span {
-    pub line: u32,
-    pub from: u32,
-    pub to: u32,
-}
-
-fn copy_kind(alloc: Global, kind: &ItemKind) -> Result<ItemKind, Memory>
-    ensures { IfOk result (λ k. k ≡ kind.now) }
-{
-    match kind {
-        ItemKind::Word(word) => Ok(ItemKind::Word(*word)),
-        ItemKind::Name(name) => Ok(ItemKind::Name(name.copy(alloc)?)),
-        ItemKind::Number(value) => Ok(ItemKind::Number(*value)),
-        ItemKind::Text(bytes) => Ok(ItemKind::Text(bytes.copy(alloc)?)),
-        ItemKind::Mark(mark) => Ok(ItemKind::Mark(*mark)),
-    }
-}
-
-fn push_copies(alloc: Global, text: &mut List<ItemKind>, more: &[ItemKind]) -> Result<(), Memory>
-    ensures { OnOk result (text.new ≡ text.old ++ more.now) }
-{
-    for kind in more {
-        text.push(copy_kind(alloc, kind)?)?;
-    }
-    Ok(())
-}
-
-fn push_items(
-    alloc: Global,
-    out: &mut List<Item>,
-    span: Span,
-    kinds: &[ItemKind],
-) -> Result<(), Memory>
-    ensures { OnOk result (out.new ≡ out.old ++ spec.items_at span.line span.from span.to kinds.now) }
-{
-    for kind in kinds {
-        let kind = copy_kind(alloc, kind)?;
-        out.push(Item {
-            kind,
-            line: span.line,
-            from: span.from,
-            to: span.to,
-        })?;
-    }
-    Ok(())
+    Within(u32, Name),
 }
 
 /// The text that an item is replaced by, where it is a LET name.
-fn use_of<'a>(table: &'a LetTable, kind: &ItemKind) -> Option<&'a [ItemKind]>
-    ensures { spec.or_itself kind.now (option_map (λ x. x.now) result) ≡ spec.replaced (lets_of table.entry.now) kind.now }
+fn use_of(table: &LetTable, kind: &ItemKind) -> Option<Option<usize>>
+    ensures text { spec.or_itself kind.now (option_map (text_at table.now.texts) result) ≡ spec.replaced (lets_of table.now) kind.now }
+    ensures root { IsNamed table.now.texts result }
 {
     match kind {
         ItemKind::Name(name) => text_of(table, name.as_slice()),
@@ -123,10 +78,10 @@ fn add_item(
     let count = out.len();
     match use_of(table, &kind) {
         Some(text) => {
-            if count.saturating_add(text.len()) > 65535 {
+            if count.saturating_add(text_len(table, text)) > 65535 {
                 return Err(TextFault::TooManyItems(span.line));
             }
-            push_items(alloc, out, span, text)?;
+            write_text(alloc, table, text, span, out)?;
             Ok(())
         }
         None => {
@@ -147,27 +102,27 @@ fn add_item(
 /// An item inside a LET goes into its text.
 fn add_to_text(
     alloc: Global,
-    table: &LetTable,
-    text: &mut List<ItemKind>,
+    table: &mut LetTable,
     kind: ItemKind,
     line: u32,
 ) -> Result<(), TextFault>
-    ensures { spec.Adds (spec.replaced (lets_of table.now) kind) (length text.old) line (text.new ≡ text.old ++ spec.replaced (lets_of table.now) kind) result }
+    ensures adds { spec.Adds (spec.replaced (lets_of table.old) kind) (length table.old.text) line (table.new.text ≡ table.old.text ++ spec.replaced (lets_of table.old) kind) result }
+    ensures same { SameLets table.old table.new }
 {
-    let count = text.len();
+    let count = open_len(table);
     match use_of(table, &kind) {
         Some(more) => {
-            if count.saturating_add(more.len()) > 65535 {
+            if count.saturating_add(text_len(table, more)) > 65535 {
                 return Err(TextFault::TooManyItems(line));
             }
-            push_copies(alloc, text, more)?;
+            add_use(alloc, table, more)?;
             Ok(())
         }
         None => {
             if count >= 65535 {
                 return Err(TextFault::TooManyItems(line));
             }
-            text.push(kind)?;
+            add_own(table, kind)?;
             Ok(())
         }
     }
@@ -180,7 +135,7 @@ fn plain(
     kind: ItemKind,
     span: Span,
 ) -> Result<State, TextFault>
-    ensures { Turns (turns.plain (lets_of table.now) (length out.old) span.line span.from span.to kind) out.old (lets_of table.now) out.new result }
+    ensures { Turns (turns.plain (lets_of table.now) (length out.old) span.line span.from span.to kind) out.old table.now out.new result }
 {
     if is_let(&kind) {
         return Ok(State::Behind(span.line));
@@ -191,8 +146,8 @@ fn plain(
     }
 }
 
-fn behind(line: u32, kind: ItemKind) -> Result<State, TextFault>
-    ensures { Turns (turns.behind no_lets line (spec.name_of kind)) [] no_lets [] result }
+fn behind(table: &LetTable, line: u32, kind: ItemKind) -> Result<State, TextFault>
+    ensures { Turns (turns.behind (lets_of table.now) line (spec.name_of kind)) [] table.now [] result }
 {
     match kind {
         ItemKind::Name(name) => Ok(State::Named(line, name)),
@@ -200,11 +155,18 @@ fn behind(line: u32, kind: ItemKind) -> Result<State, TextFault>
     }
 }
 
-fn named(alloc: Global, line: u32, name: Name, kind: &ItemKind) -> Result<State, TextFault>
-    ensures { Turns (turns.named no_lets line name kind.now) [] no_lets [] result }
+fn named(
+    alloc: Global,
+    table: &mut LetTable,
+    line: u32,
+    name: Name,
+    kind: &ItemKind,
+) -> Result<State, TextFault>
+    ensures { Turns (turns.named (lets_of table.old) line name kind.now) [] table.new [] result }
 {
     if is_equal(kind) {
-        return Ok(State::Within(line, name, List::new(alloc, 0)?));
+        begin(alloc, table);
+        return Ok(State::Within(line, name));
     }
     Err(TextFault::BadLet(line))
 }
@@ -214,19 +176,18 @@ fn within(
     table: &mut LetTable,
     let_line: u32,
     name: Name,
-    mut text: List<ItemKind>,
     kind: ItemKind,
     line: u32,
 ) -> Result<State, TextFault>
-    ensures { Turns (turns.within (lets_of table.old) line let_line name text kind) [] (lets_of table.new) [] result }
+    ensures { Turns (turns.within (lets_of table.old) line let_line name table.old.text kind) [] table.new [] result }
 {
     if is_semicolon(&kind) {
-        put(alloc, table, &name, text)?;
+        put(alloc, table, &name)?;
         return Ok(State::Plain);
     }
-    match add_to_text(alloc, table, &mut text, kind, line) {
+    match add_to_text(alloc, table, kind, line) {
         Err(fault) => Err(fault),
-        Ok(()) => Ok(State::Within(let_line, name, text)),
+        Ok(()) => Ok(State::Within(let_line, name)),
     }
 }
 
@@ -239,24 +200,24 @@ pub fn turn(
     kind: ItemKind,
     span: Span,
 ) -> Result<State, TextFault>
-    ensures { Turns (turns.turn state (lets_of table.old) (length out.old) span.line span.from span.to kind) out.old (lets_of table.new) out.new result }
+    ensures { Turns (turns.turn (state_of table.old.text state) (lets_of table.old) (length out.old) span.line span.from span.to kind) out.old table.new out.new result }
 {
     match state {
         State::Plain => plain(alloc, table, out, kind, span),
-        State::Behind(line) => behind(line, kind),
-        State::Named(line, name) => named(alloc, line, name, &kind),
-        State::Within(line, name, text) => within(alloc, table, line, name, text, kind, span.line),
+        State::Behind(line) => behind(table, line, kind),
+        State::Named(line, name) => named(alloc, table, line, name, &kind),
+        State::Within(line, name) => within(alloc, table, line, name, kind, span.line),
     }
 }
 
 /// How the list ends where the text does.
 pub fn finish(state: State, out: List<Item>) -> Result<List<Item>, TextFault>
-    ensures { result ≡ spec.with_items out (end_of state Clean) }
+    ensures { result ≡ spec.with_items out (end_of (state_of [] state) Clean) }
 {
     match state {
         State::Plain => Ok(out),
         State::Behind(line) => Err(TextFault::BadLet(line)),
         State::Named(line, _) => Err(TextFault::BadLet(line)),
-        State::Within(line, _, _) => Err(TextFault::BadLet(line)),
+        State::Within(line, _) => Err(TextFault::BadLet(line)),
     }
 }

@@ -10,6 +10,7 @@ mod mark;
 mod meaning;
 mod number;
 mod read;
+mod rope;
 mod step;
 mod table;
 mod texts;

@@ -2,7 +2,7 @@
 
 ghost use Rattle.std.specs.Prelude.{◌≡◌, ◌≢◌, ◌⊎◌, ◌≤◌, Ok, Err, length, IfOk, IfErr};
 ghost use Rattle.rt_items.specs.Lets.{Items, Reading, HaveOneReading, HaveSomeReading};
-ghost use Rattle.rt_items.specs.Reading.{Turns, turn_meant, reading_of, Answers};
+ghost use Rattle.rt_items.specs.Reading.{Turns, state_of, turn_meant, reading_of, Answers};
 ghost use Rattle.rt_items.specs.Meaning.{meaning_by};
 ghost use Rattle.rt_items.specs.Table.{lets_of};
 
@@ -22,7 +22,7 @@ fn add_piece(
     out: &mut List<Item>,
     found: Found,
 ) -> Result<State, TextFault>
-    ensures { Turns (turn_meant state (lets_of table.old) (length out.old) found.entry.span.line found.entry.span.from found.entry.span.to (meaning_by (lets_of table.old) found.entry.span.line found.entry.text.now found.entry.base)) out.old (lets_of table.new) out.new result }
+    ensures { Turns (turn_meant (state_of table.old.text state) (lets_of table.old) (length out.old) found.entry.span.line found.entry.span.from found.entry.span.to (meaning_by (lets_of table.old) found.entry.span.line found.entry.text.now found.entry.base)) out.old table.new out.new result }
 {
     match meaning(alloc, table, found.span.line, found.base, found.text) {
         Err(fault) => Err(fault),

@@ -45,7 +45,7 @@ fn bytes_shown(alloc: Global, what: &str, bytes: &[u8]) -> Result<String, Fail> 
     Ok(all)
 }
 
-const PIECES: [(&[u8], &str); 26] = [
+const PIECES: [(&[u8], &str); 28] = [
     // nothing, layout alone, one comment
     (b"", ""),
     (b" \t\r\n ", ""),
@@ -113,9 +113,19 @@ const PIECES: [(&[u8], &str); 26] = [
         "text.01@1:31-32 text.02@1:33-38 ",
     ),
     (b"LET N=1; LET T=N; \"#T,T#\"", "text.01.01@1:18-25 "),
+    // names for other names, and for nothing
+    (
+        b"LET E=; LET F=E E; LET A=E 7 F; LET B=A; LET C=E B F; LET D=C C; \"#C#\" D E F",
+        "text.07@1:65-70 7@1:71-72 7@1:71-72 ",
+    ),
+    // parts in their order
+    (
+        b"LET A=1 2; LET B=A 3 A; LET C=0 B B 9; C",
+        "0@1:39-40 1@1:39-40 2@1:39-40 3@1:39-40 1@1:39-40 2@1:39-40 1@1:39-40 2@1:39-40 3@1:39-40 1@1:39-40 2@1:39-40 9@1:39-40 ",
+    ),
 ];
 
-const FAULTS: [(&[u8], &str); 54] = [
+const FAULTS: [(&[u8], &str); 56] = [
     (
         b"\nABCDEFGHIJKLMNOPQRSTUVWXYZ0123456",
         "line 2: bad character",
@@ -160,6 +170,8 @@ const FAULTS: [(&[u8], &str); 54] = [
     (b"LET A=1 2;\n\"#A#\"", "line 2: bad insert"),
     (b"LET A=256;\n\"#A#\"", "line 2: bad insert"),
     (b"LET A=B;\n\"#A#\"", "line 2: bad insert"),
+    (b"LET A=1; LET B=A A;\n\"#B#\"", "line 2: bad insert"),
+    (b"LET A=;\n\"#A#\"", "line 2: bad insert"),
     (b"\n\"#NL#\x01", "line 2: bad insert"),
     (b"\n\"#NL#\n", "line 2: bad insert"),
     (b"\n\"\x01#NL#", "line 2: bad character"),
@@ -259,5 +271,39 @@ fn texts_have_their_limits(rt: HostRuntime) -> Result<(), Fail> {
     }
     let found = counted(rt.alloc(), all.as_slice())?;
     assert_eq!(rt; found.as_str(), "line 4: too many items");
+    Ok(())
+}
+
+// One LET of so many items, lines that use its name, and what is behind them.
+const USES: [(usize, &[u8], usize, &[u8], &str); 6] = [
+    (1000, b"LET A=A 1;\n", 64535, b"A", "65535 items"),
+    (
+        1000,
+        b"LET A=A 1;\n",
+        64536,
+        b"A",
+        "line 64537: too many items",
+    ),
+    (30000, b"LET B=A 1;\n", 65000, b"B", "30001 items"),
+    (30000, b"LET B=1 A A 1;\n", 65000, b"B", "60002 items"),
+    (
+        30000,
+        b"LET E=;LET A=E A E;\n",
+        65000,
+        b"A E",
+        "30000 items",
+    ),
+    (1, b"LET A=A A;\n", 16, b"A", "line 17: too many items"),
+];
+
+#[test]
+fn uses_cost_no_copies(rt: HostRuntime) -> Result<(), Fail> {
+    for (size, part, count, last, wanted) in USES {
+        let mut all = repeated(rt.alloc(), b"LET A=", b"1 ", size, b";\n")?;
+        let lines = repeated(rt.alloc(), b"", part, count, last)?;
+        all.extend_from_slice(lines.as_slice())?;
+        let found = counted(rt.alloc(), all.as_slice())?;
+        assert_eq!(rt; found.as_str(), wanted);
+    }
     Ok(())
 }

@@ -11,10 +11,9 @@ ghost use Rattle.rt_items.specs.Table.{lets_of};
 
 use crate::bytes::{is_blank, is_capital, is_digit, is_printable};
 use crate::fault::TextFault;
-use crate::item::ItemKind;
 use crate::number::number;
 use crate::step::string_len;
-use crate::table::{LetTable, text_of};
+use crate::table::{LetTable, one_number, text_of};
 use rt_words::{Bytes, Text};
 use std::alloc::Global;
 
@@ -90,13 +89,13 @@ fn small(value: u32) -> Option<u8>
     }
 }
 
-fn one_number(text: Option<&[ItemKind]>) -> Option<u8>
-    ensures { result ≡ spec.one_number (option_map (λ x. x.now) text.entry) }
+/// The number up to 255 that the text of a LET name is, where it is exactly one.
+fn byte_named(table: &LetTable, name: &[u8]) -> Option<u8>
+    ensures { result ≡ spec.one_number (lets_of table.now name.now) }
 {
-    match text {
-        Some([ItemKind::Number(value)]) => small(u32::from(*value)),
-        _ => None,
-    }
+    let text = text_of(table, name)?;
+    let value = one_number(table, text)?;
+    small(u32::from(value))
 }
 
 fn all_digits(run: &[u8]) -> bool
@@ -112,7 +111,7 @@ fn byte_of(table: &LetTable, run: &[u8]) -> Option<u8>
     if all_digits(run) {
         return small(number(10, run));
     }
-    one_number(text_of(table, run))
+    byte_named(table, run)
 }
 
 fn in_value(b: u8) -> bool
