@@ -1,0 +1,4 @@
+pub mod Applied
+pub mod Rank
+pub mod ExpressionLines
+pub mod ModeLines

@@ -1,0 +1,12 @@
+use rt_items::{Mark, Word};
+
+/// What comes next, as far as the grammar looks at it.
+#[derive(Clone, Copy, Debug, PartialEq, Eq)]
+pub enum Next {
+    End,
+    Word(Word),
+    Name,
+    Number,
+    Text,
+    Mark(Mark),
+}

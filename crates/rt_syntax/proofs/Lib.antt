@@ -1,0 +1,2 @@
+pub mod StatementLines
+pub mod Exact

@@ -1,0 +1,4 @@
+pub mod Tables
+pub mod Statements
+pub mod StatementParser
+pub mod Derives
