@@ -21,4 +21,6 @@ pub use statements::{body, names};
 pub use tree::{Body, Branch, Control, Local, Locals, Simple, Stmt};
 
 #[cfg(test)]
+mod shown;
+#[cfg(test)]
 mod tests;

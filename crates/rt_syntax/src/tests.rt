@@ -1,3 +1,4 @@
+use super::shown::shown;
 use super::*;
 use rt_items::{Item, items};
 use std::alloc::Global;
@@ -153,6 +154,70 @@ fn limits(rt: HostRuntime) -> Result<(), Fail> {
     for (pieces, want) in cases {
         let text = built(alloc, pieces)?;
         let got = outcome(alloc, text.as_slice(), 0)?;
+        assert_eq!(rt; got.as_str(), want);
+    }
+    Ok(())
+}
+
+// The tree of a text's body.
+fn tree(alloc: Global, text: &[u8]) -> Result<String, Fail> {
+    if text.len() > 4194304 {
+        return Ok(format!(in alloc; "too long")?);
+    }
+    match items(alloc, text) {
+        Ok(all) => match parse_body(alloc, all.as_slice(), 0) {
+            Ok((body, _)) => shown(alloc, &body, 1000),
+            Err(fault) => Ok(format!(in alloc; "{fault}")?),
+        },
+        Err(fault) => Ok(format!(in alloc; "{fault}")?),
+    }
+}
+
+// Texts and the trees that the grammar's lines give them, the levels of operators among them.
+const TREES: [(&[u8], &str); 9] = [
+    (
+        b"RETURN 2 + 3 LAND 1 * 5 ENDPROC",
+        " (body@0 (stmt@0 (RETURN@0 (Plus@1 2@1 (Land@3 3@3 (Times@5 1@5 5@7))))))",
+    ),
+    (
+        b"RETURN A - B - C ENDPROC",
+        " (body@0 (stmt@0 (RETURN@0 (Minus@1 (Minus@1 A@1 B@3) C@5))))",
+    ),
+    (
+        b"RETURN -A SLL 2 * B ENDPROC",
+        " (body@0 (stmt@0 (RETURN@0 (Times@1 (Sll@1 (Minus@1 A@2) 2@4) B@6))))",
+    ),
+    (
+        b"RETURN N SRL (16 - 4 * I) LAND 15 ENDPROC",
+        " (body@0 (stmt@0 (RETURN@0 (Land@1 (Srl@1 N@1 (Minus@4 16@4 (Times@6 4@6 I@8))) 15@11))))",
+    ),
+    (
+        b"RETURN (A + B) * C ENDPROC",
+        " (body@0 (stmt@0 (RETURN@0 (Times@1 (Plus@2 A@2 B@4) C@7))))",
+    ),
+    (
+        b"X := VAL Y + ABS -(A.F(1, 2).G) ENDPROC",
+        " (body@0 (stmt@0 (:=@0 X@0 (Plus@2 VAL@2 Y@3 (Abs@5 (Minus@6 A@8 (.@9 F@10) (apply@11 1@12 2@14) (.@16 G@17)))))))",
+    ),
+    (
+        b"IF A < B THEN X ELSEIF A = B AND C # D OR E :=: F THEN Y; Z ELSE END ENDPROC",
+        " (body@0 (stmt@0 (IF@0 (branch@0 (Less@1 A@1 B@3) THEN (stmt@5 X@5)) (branch@6 (OR@7 (AND@7 (Equal@7 A@7 B@9) (Unequal@11 C@11 D@13)) (Same@15 E@15 F@17)) THEN (stmt@19 Y@19) (stmt@21 Z@21)) ELSE (stmt@23))))",
+    ),
+    (
+        b"FOR I := 1 BY 2 TO N DO X(I) REP; TO 3 DO REP; WHILE A >= B DO L: GOTO L REP ENDPROC",
+        " (body@0 (stmt@0 (FOR@0 I@1 1@3 BY 2@5 TO N@7 DO (stmt@9 X@9 (apply@10 I@11)))) (stmt@15 (FOR@15 3@16 DO (stmt@18))) (stmt@20 (WHILE@20 (GreaterOrEqual@21 A@21 B@23) DO (stmt@25 L@25: (GOTO@27 L@28)))))",
+    ),
+    (
+        b"INT A := 1, B; REF ARRAY BYTE C; ARRAY(3) PROC(REF R, INT) FRAC D; BLOCK LABEL L; ; ENDBLOCK; SWITCH I OF P, Q; VAL A := \"T\" ENDPROC",
+        " (body@0 (locals@0 Int@0 A@1 1@3 B@5) (locals@7 (REF ARRAY@7 Byte@9) C@10) (locals@12 (ARRAY 3@12 (PROC@16 (REF@18 R@19) Int@21 => Frac@23)) D@24) (stmt@26 (BLOCK@26 (body@27 (locals@27 Label@27 L@28) (stmt@30) (stmt@31)))) (stmt@33 (SWITCH@33 I@34 P@36 Q@38)) (stmt@40 (VAL :=@40 A@41 text@43)))",
+    ),
+];
+
+#[test]
+fn trees(rt: HostRuntime) -> Result<(), Fail> {
+    let alloc = rt.alloc();
+    for (text, want) in TREES {
+        let got = tree(alloc, text)?;
         assert_eq!(rt; got.as_str(), want);
     }
     Ok(())
