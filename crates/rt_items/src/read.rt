@@ -6,12 +6,10 @@ ghost use Rattle.rt_items.specs.Reading.{Turns, state_of, turn_meant, reading_of
 ghost use Rattle.rt_items.specs.Meaning.{meaning_by};
 ghost use Rattle.rt_items.specs.Table.{lets_of};
 
-use crate::cut::{Cursor, Found, Seen, next_piece};
 use crate::expand::{State, finish, turn};
-use crate::fault::TextFault;
-use crate::item::Item;
 use crate::meaning::meaning;
 use crate::table::{LetTable, empty_table};
+use rt_pieces::{Cursor, Found, Item, Seen, TextFault, next_piece};
 use rt_words::List;
 use std::alloc::Global;
 

@@ -1,6 +1,7 @@
 use Rattle.std.proofs.Common.{refl, length, arith}
 use Rattle.std.proofs.Math.Path.{fun_ext}
-use Rattle.rt_items.specs.Reading.{cuts_at, found_piece, state_of}
+use Rattle.rt_pieces.specs.Steps.{cuts_at, found_piece}
+use Rattle.rt_items.specs.Reading.{state_of}
 use Rattle.rt_items.specs.Table.{lets_of}
 use Rattle.rt_items.proofs.Expanding.{turn_goes, turn_fails}
 use Rattle.rt_items.proofs.Readings.{begins, ends_clean, ends_badly}

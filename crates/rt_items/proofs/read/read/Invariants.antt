@@ -1,6 +1,7 @@
 use Rattle.std.proofs.Common.{◌≡◌, ◌≤◌, length}
 use Rattle.rt_items.specs.Lets.{with_items}
-use Rattle.rt_items.specs.Reading.{IsInside, cuts_at, weight, state_of, reading_from, reading_of}
+use Rattle.rt_pieces.specs.Steps.{IsInside, cuts_at, weight}
+use Rattle.rt_items.specs.Reading.{state_of, reading_from, reading_of}
 use Rattle.rt_items.specs.Table.{lets_of}
 use Rattle.rt_items.proofs.read.read.Given as goal
 

@@ -1,17 +1,17 @@
 -- What the code sees at a place.
 use Rattle.std.proofs.Common.{◌≡◌, ℕ, ◌+◌, ◌-◌, ◌*◌, ◌<◌, ◌≤◌, List, length, take, drop, Option, Some, None, sym, ap, subst, ◌∙◌, arith, length-drop}
-use Rattle.rt_items.specs.declared.number.Base.{Base}
-use Rattle.rt_items.specs.declared.number.Opened.{Opened}
-use Rattle.rt_items.specs.declared.step.Step.{Step}
-use Rattle.rt_items.specs.declared.step.Step.TheVariants as step
-use Rattle.rt_items.specs.declared.cut.Cursor.{Cursor}
-use Rattle.rt_items.specs.declared.cut.Seen.{Seen}
-use Rattle.rt_items.specs.declared.cut.Seen.TheVariants as seen
-use Rattle.rt_items.specs.Pieces.{base_of}
-use Rattle.rt_items.specs.Cutting.{Piece, place, piece_at, digits_of}
-use Rattle.rt_items.specs.Reading.{next_step, IsWithin, IsInside, SeesAt, GoesOn, before, cuts_of, cuts_at, weight, pending}
-use Rattle.rt_items.proofs.Steps.{step_within}
-use Rattle.rt_items.proofs.Cuts.{cuts_skip, cuts_base, cuts_piece, cuts_digits}
+use Rattle.rt_pieces.specs.declared.number.Base.{Base}
+use Rattle.rt_pieces.specs.declared.number.Opened.{Opened}
+use Rattle.rt_pieces.specs.declared.step.Step.{Step}
+use Rattle.rt_pieces.specs.declared.step.Step.TheVariants as step
+use Rattle.rt_pieces.specs.declared.cut.Cursor.{Cursor}
+use Rattle.rt_pieces.specs.declared.cut.Seen.{Seen}
+use Rattle.rt_pieces.specs.declared.cut.Seen.TheVariants as seen
+use Rattle.rt_pieces.specs.Pieces.{base_of}
+use Rattle.rt_pieces.specs.Cutting.{Piece, place, piece_at, digits_of}
+use Rattle.rt_pieces.specs.Steps.{next_step, IsWithin, IsInside, SeesAt, GoesOn, before, cuts_of, cuts_at, weight, pending}
+use Rattle.rt_pieces.proofs.Steps.{step_within}
+use Rattle.rt_pieces.proofs.Cuts.{cuts_skip, cuts_base, cuts_piece, cuts_digits}
 
 pub within_by : (o p : Option Opened) (bytes : List ℕ) (s : Step) → o ≡ p → s ≡ next_step p bytes → IsWithin o (length bytes) s
 within_by o p bytes s e is = subst (λ (t : Option Opened). IsWithin t (length bytes) s) (sym e) (subst (λ (t : Step). IsWithin p (length bytes) t) (sym is) (step_within p bytes))

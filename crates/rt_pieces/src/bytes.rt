@@ -2,7 +2,7 @@
 
 ghost use Rattle.std.specs.Prelude.{◌≡◌};
 ghost use Rattle.std.specs.Str.{bytes_eq};
-ghost use Rattle.rt_items.specs.Bytes as spec;
+ghost use Rattle.rt_pieces.specs.Bytes as spec;
 
 pub fn is_blank(b: u8) -> bool
     ensures { result ≡ spec.is_blank b }

@@ -1,3 +1,5 @@
+//! Items.
+
 use rt_words::{Bytes, Name};
 
 /// A reserved word (BS 5904, items), one variant for each of the 54.
@@ -120,6 +122,17 @@ pub enum ItemKind {
 pub struct Item {
     pub kind: ItemKind,
     /// The line in which the item, or the use of the LET name that it comes from, begins, from 1.
+    pub line: u32,
+    /// The place where it begins, in bytes from 0.
+    pub from: u32,
+    /// The place past it, in bytes from 0.
+    pub to: u32,
+}
+
+/// The line and the span of a piece.
+#[derive(Clone, Copy)]
+pub struct Span {
+    /// The line in which it begins, from 1.
     pub line: u32,
     /// The place where it begins, in bytes from 0.
     pub from: u32,

@@ -1,7 +1,7 @@
 //! The marks.
 
 ghost use Rattle.std.specs.Prelude.{◌≡◌};
-ghost use Rattle.rt_items.specs.Pieces as pieces;
+ghost use Rattle.rt_pieces.specs.Pieces as pieces;
 
 use crate::item::Mark;
 

@@ -2,7 +2,7 @@
 
 ghost use Rattle.std.specs.Prelude.{◌≡◌, find};
 ghost use Rattle.std.specs.Str.{bytes_eq};
-ghost use Rattle.rt_items.specs.Pieces as pieces;
+ghost use Rattle.rt_pieces.specs.Pieces as pieces;
 
 use crate::bytes::same;
 use crate::item::Word;

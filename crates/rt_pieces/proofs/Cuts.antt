@@ -1,17 +1,17 @@
 -- The function cuts as the relation says, and no other cut is one.
 use Rattle.std.proofs.Common.{◌≡◌, ℕ, zero, suc, ◌+◌, ◌≤◌, false, List, [], ◌∷◌, ◌++◌, length, take, drop, Option, Some, None, refl, sym, ap, subst, ◌∙◌, arith, length-append, length-drop}
 use Rattle.std.proofs.lemmas.List.{take_at, drop_at}
-use Rattle.rt_items.specs.declared.number.Base.{Base}
-use Rattle.rt_items.specs.declared.number.Opened.{Opened}
-use Rattle.rt_items.specs.declared.step.Step.{Step}
-use Rattle.rt_items.specs.declared.step.Step.TheVariants as step
-use Rattle.rt_items.specs.Bytes.{lines_in}
-use Rattle.rt_items.specs.Pieces.{base_of, IsPiece}
-use Rattle.rt_items.specs.declared.fault.TextFault.TheVariants.{BadCharacter, OpenComment}
-use Rattle.rt_items.specs.Cutting.{Piece, End, Clean, Stops, begins_gap, Cut, finish, blank, comment, open_comment, base, digits, piece, bad, place, piece_at, digits_of}
-use Rattle.rt_items.specs.Reading.{next_step, step_of, Cuts, Cutter, before, cut_base, cut_piece, after_step, cut_from, cuts_of, weight}
-use Rattle.rt_items.proofs.Fronts.{drop_comment}
-use Rattle.rt_items.proofs.Steps.{Sees, sees, s_finish, s_blank, s_comment, s_open, s_piece, s_run, s_bad, piece_step, piece_some, run_step, blank_step, open_step, comment_is, bad_step}
+use Rattle.rt_pieces.specs.declared.number.Base.{Base}
+use Rattle.rt_pieces.specs.declared.number.Opened.{Opened}
+use Rattle.rt_pieces.specs.declared.step.Step.{Step}
+use Rattle.rt_pieces.specs.declared.step.Step.TheVariants as step
+use Rattle.rt_pieces.specs.Bytes.{lines_in}
+use Rattle.rt_pieces.specs.Pieces.{base_of, IsPiece}
+use Rattle.rt_pieces.specs.declared.fault.TextFault.TheVariants.{BadCharacter, OpenComment}
+use Rattle.rt_pieces.specs.Cutting.{Piece, End, Clean, Stops, begins_gap, Cut, finish, blank, comment, open_comment, base, digits, piece, bad, place, piece_at, digits_of}
+use Rattle.rt_pieces.specs.Steps.{next_step, step_of, Cuts, Cutter, before, cut_base, cut_piece, after_step, cut_from, cuts_of, weight}
+use Rattle.rt_pieces.proofs.Fronts.{drop_comment}
+use Rattle.rt_pieces.proofs.Steps.{Sees, sees, s_finish, s_blank, s_comment, s_open, s_piece, s_run, s_bad, piece_step, piece_some, run_step, blank_step, open_step, comment_is, bad_step}
 
 abbrev IsCut : ℕ → Option Opened → ℕ → List ℕ → Cuts → Type 0
 IsCut total o n bytes cuts = Cut total o n bytes cuts.0 cuts.1

@@ -1,8 +1,8 @@
 //! Numbers.
 
 ghost use Rattle.std.specs.Prelude.{◌≡◌, ◌≤◌, min};
-ghost use Rattle.rt_items.specs.Bytes as spec;
-ghost use Rattle.rt_items.specs.Pieces as pieces;
+ghost use Rattle.rt_pieces.specs.Bytes as spec;
+ghost use Rattle.rt_pieces.specs.Pieces as pieces;
 
 use crate::bytes::{is_digit, is_letter_or_digit, upper};
 
@@ -49,7 +49,7 @@ pub fn is_digit_of(base: u32, b: u8) -> bool
 }
 
 /// The number that the digits say, or 65,536 where it is larger.
-pub fn number(base: u32, text: &[u8]) -> u32
+pub fn value_of(base: u32, text: &[u8]) -> u32
     requires low { 1 ≤ base }
     requires high { base ≤ 16 }
     ensures { result ≡ min (spec.number_of base text.now) 65536 }

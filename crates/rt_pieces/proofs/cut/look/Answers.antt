@@ -1,8 +1,8 @@
 use Rattle.std.proofs.Common.{refl}
-use Rattle.rt_items.proofs.Fronts.{tail_is}
-use Rattle.rt_items.proofs.Cuts.{cuts_finish, cuts_open, cuts_bad}
-use Rattle.rt_items.proofs.Looking.{skip_goes}
-use Rattle.rt_items.proofs.cut.look.Goals as goal
+use Rattle.rt_pieces.proofs.Fronts.{tail_is}
+use Rattle.rt_pieces.proofs.Cuts.{cuts_finish, cuts_open, cuts_bad}
+use Rattle.rt_pieces.proofs.Looking.{skip_goes}
+use Rattle.rt_pieces.proofs.cut.look.Goals as goal
 
 pub returns-in-Finish : goal.returns-in-Finish
 returns-in-Finish c = cuts_finish c.args.total c.args.cursor.opened c.args.cursor.line c.args.cursor.rest.now c.in-Finish.ensures.step

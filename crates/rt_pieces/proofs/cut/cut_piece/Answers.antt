@@ -1,8 +1,8 @@
 use Rattle.std.proofs.Common.{ℕ, List, refl, ap, sym, take, ◌∙◌}
-use Rattle.rt_items.specs.Cutting.{piece_at, digits_of}
-use Rattle.rt_items.proofs.Fronts.{tail_is}
-use Rattle.rt_items.proofs.Looking.{base_goes, piece_goes, digits_go}
-use Rattle.rt_items.proofs.cut.cut_piece.Goals as goal
+use Rattle.rt_pieces.specs.Cutting.{piece_at, digits_of}
+use Rattle.rt_pieces.proofs.Fronts.{tail_is}
+use Rattle.rt_pieces.proofs.Looking.{base_goes, piece_goes, digits_go}
+use Rattle.rt_pieces.proofs.cut.cut_piece.Goals as goal
 
 pub returns-in-Some : goal.returns-in-Some
 returns-in-Some c =

@@ -5,7 +5,7 @@ use Rattle.std.specs.List.{prefix_len}
 use Rattle.std.proofs.lemmas.Bool.{eqb-true, eq-eqb}
 use Rattle.std.proofs.lemmas.List.{drop_at, append-nil}
 use Rattle.std.proofs.Math.Seq.{drop-length, take-length}
-use Rattle.rt_items.specs.Bytes.{Each, Ends}
+use Rattle.rt_pieces.specs.Bytes.{Each, Ends}
 
 unfoldable pub front : (ℕ → Bool) → List ℕ → List ℕ
 front p [] = []

@@ -1,11 +1,11 @@
 -- The cut of a text into layout, comments and pieces, each piece the longest that begins there.
 use Rattle.std.specs.Prelude.{◌≡◌, ◌≢◌, ℕ, ◌+◌, ◌-◌, Bool, true, false, ◌||◌, ◌==◌, List, [], ◌∷◌, ◌++◌, length, Option, Some, None}
-use Rattle.rt_items.specs.declared.number.Base.{Base}
-use Rattle.rt_items.specs.declared.number.Opened.{Opened}
-use Rattle.rt_items.specs.declared.fault.TextFault.{TextFault}
-use Rattle.rt_items.specs.declared.fault.TextFault.TheVariants.{BadCharacter, OpenComment}
-use Rattle.rt_items.specs.Bytes.{is_blank, is_letter_or_digit, in_comment, lines_in, Each, Ends}
-use Rattle.rt_items.specs.Pieces.{base_of, IsPiece}
+use Rattle.rt_pieces.specs.declared.number.Base.{Base}
+use Rattle.rt_pieces.specs.declared.number.Opened.{Opened}
+use Rattle.rt_pieces.specs.declared.fault.TextFault.{TextFault}
+use Rattle.rt_pieces.specs.declared.fault.TextFault.TheVariants.{BadCharacter, OpenComment}
+use Rattle.rt_pieces.specs.Bytes.{is_blank, is_letter_or_digit, in_comment, lines_in, Each, Ends}
+use Rattle.rt_pieces.specs.Pieces.{base_of, IsPiece}
 
 -- a piece of the text, with its line and span; the digits behind BIN, OCT or HEX have that base, and begin at that word
 pub record Piece : Type 0 where

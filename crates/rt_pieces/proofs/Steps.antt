@@ -5,14 +5,14 @@ use Rattle.std.proofs.lemmas.Bool.Decides.{nat_tests}
 use Rattle.std.proofs.lemmas.Bool.{eqb-true, eq-eqb}
 use Rattle.std.proofs.lemmas.List.{take_at, drop_at, append-nil}
 use Rattle.std.proofs.lemmas.List.Sums.{count_by-le-length}
-use Rattle.rt_items.specs.declared.number.Opened.{Opened}
-use Rattle.rt_items.specs.declared.step.Step.{Step}
-use Rattle.rt_items.specs.declared.step.Step.TheVariants as step
-use Rattle.rt_items.specs.Bytes.{is_blank, is_letter, is_digit, is_letter_or_digit, is_printable, in_comment, in_string, lines_in, Each, Ends}
-use Rattle.rt_items.specs.Pieces.{mark_of, mark_of_one, mark_of_two, mark_of_three, IsName, IsNumber, IsCharacter, IsString, IsMark, IsPiece}
-use Rattle.rt_items.specs.Cutting.{begins_gap}
-use Rattle.rt_items.specs.Reading.{comment_step, character_step, string_end, string_step, one_step, two_step, mark_step, step_of, digits_step, next_step, pending, IsWithin}
-use Rattle.rt_items.proofs.Fronts.{front, while_each, each_front, ends_front, parts_front, front_length, true_false, differ, head_of, whole_front, neq_eqb}
+use Rattle.rt_pieces.specs.declared.number.Opened.{Opened}
+use Rattle.rt_pieces.specs.declared.step.Step.{Step}
+use Rattle.rt_pieces.specs.declared.step.Step.TheVariants as step
+use Rattle.rt_pieces.specs.Bytes.{is_blank, is_letter, is_digit, is_letter_or_digit, is_printable, in_comment, in_string, lines_in, Each, Ends}
+use Rattle.rt_pieces.specs.Pieces.{mark_of, mark_of_one, mark_of_two, mark_of_three, IsName, IsNumber, IsCharacter, IsString, IsMark, IsPiece}
+use Rattle.rt_pieces.specs.Cutting.{begins_gap}
+use Rattle.rt_pieces.specs.Steps.{comment_step, character_step, string_end, string_step, one_step, two_step, mark_step, step_of, digits_step, next_step, pending, IsWithin}
+use Rattle.rt_pieces.proofs.Fronts.{front, while_each, each_front, ends_front, parts_front, front_length, true_false, differ, head_of, whole_front, neq_eqb}
 
 -- ---- marks
 

@@ -1,14 +1,14 @@
 -- What a piece is, and where it ends.
 use Rattle.std.specs.Prelude.{◌≡◌, ℕ, true, ◌||◌, ◌==◌, if◌then◌else◌, List, [], ◌∷◌, ◌++◌, map, find, Option, Some, None, IsSome, ◌⊎◌, codes}
 use Rattle.std.specs.Str.{bytes_eq}
-use Rattle.rt_items.specs.declared.item.Mark.{Mark}
-use Rattle.rt_items.specs.declared.item.Mark.TheVariants as m
-use Rattle.rt_items.specs.declared.item.Word.{Word}
-use Rattle.rt_items.specs.declared.item.Word.TheVariants as w
-use Rattle.rt_items.specs.declared.word.TheConstants.{WORDS}
-use Rattle.rt_items.specs.declared.number.Base.{Base}
-use Rattle.rt_items.specs.declared.number.Base.TheVariants as base
-use Rattle.rt_items.specs.Bytes.{is_letter, is_digit, is_letter_or_digit, is_printable, in_string, upper, Each, Ends}
+use Rattle.rt_pieces.specs.declared.item.Mark.{Mark}
+use Rattle.rt_pieces.specs.declared.item.Mark.TheVariants as m
+use Rattle.rt_pieces.specs.declared.item.Word.{Word}
+use Rattle.rt_pieces.specs.declared.item.Word.TheVariants as w
+use Rattle.rt_pieces.specs.declared.word.TheConstants.{WORDS}
+use Rattle.rt_pieces.specs.declared.number.Base.{Base}
+use Rattle.rt_pieces.specs.declared.number.Base.TheVariants as base
+use Rattle.rt_pieces.specs.Bytes.{is_letter, is_digit, is_letter_or_digit, is_printable, in_string, upper, Each, Ends}
 
 -- ---- reserved words
 

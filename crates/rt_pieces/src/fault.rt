@@ -28,7 +28,7 @@ pub enum TextFault {
 
 impl From<Memory> for TextFault {
     ghost use Rattle.std.specs.Prelude.{◌≡◌};
-    ghost use Rattle.rt_items.specs.declared.fault.TextFault.TheVariants as fault;
+    ghost use Rattle.rt_pieces.specs.declared.fault.TextFault.TheVariants as fault;
 
     ghost from_gives = { λ _ e. e ≡ fault.Memory };
 

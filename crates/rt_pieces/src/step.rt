@@ -1,8 +1,8 @@
 //! One step of the cut.
 
 ghost use Rattle.std.specs.Prelude.{◌≡◌, ◌+◌, ◌<◌, ◌^◌, length, take_while};
-ghost use Rattle.rt_items.specs.Bytes as bytes_of;
-ghost use Rattle.rt_items.specs.Reading as spec;
+ghost use Rattle.rt_pieces.specs.Bytes as bytes_of;
+ghost use Rattle.rt_pieces.specs.Steps as spec;
 
 use crate::bytes::{in_string, is_blank, is_digit, is_letter, is_letter_or_digit, is_printable};
 use crate::mark::{mark_of_one, mark_of_three, mark_of_two};
@@ -132,7 +132,7 @@ fn mark_step(a: u8, bytes: &[u8]) -> Step
 }
 
 /// What begins the text.
-#[tactic(auto, unfolding(crate::specs::Reading::step_of))]
+#[tactic(auto, unfolding(crate::specs::Steps::step_of))]
 pub fn step_of(bytes: &[u8]) -> Step
     requires { length bytes.now + 2 < 2 ^ 64 }
     ensures { result ≡ spec.step_of bytes.now }
@@ -160,7 +160,7 @@ pub fn step_of(bytes: &[u8]) -> Step
 }
 
 /// What begins the text where the digits of a base are still to come.
-#[tactic(auto, unfolding(crate::specs::Reading::digits_step))]
+#[tactic(auto, unfolding(crate::specs::Steps::digits_step))]
 pub fn digits_step(bytes: &[u8]) -> Step
     requires { length bytes.now + 2 < 2 ^ 64 }
     ensures { result ≡ spec.digits_step bytes.now }

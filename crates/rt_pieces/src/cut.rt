@@ -1,14 +1,14 @@
 //! The cut of a text, from place to place.
 
 ghost use Rattle.std.specs.Prelude.{◌≡◌, ◌≤◌, length};
-ghost use Rattle.rt_items.specs.Pieces as pieces;
-ghost use Rattle.rt_items.specs.Reading as spec;
-ghost use Rattle.rt_items.specs.Reading.{IsInside, IsNoGap, SeesAt, IsWithin};
+ghost use Rattle.rt_pieces.specs.Pieces as pieces;
+ghost use Rattle.rt_pieces.specs.Steps as spec;
+ghost use Rattle.rt_pieces.specs.Steps.{IsInside, IsNoGap, SeesAt, IsWithin};
 
 use crate::bytes::{same, upper};
 use crate::fault::TextFault;
+use crate::item::Span;
 use crate::number::{Base, Opened};
-use crate::rope::Span;
 use crate::step::{Step, digits_step, step_of};
 
 /// A place in the text: the line, and what is left there; and BIN, OCT or HEX, where its digits are still to come.
