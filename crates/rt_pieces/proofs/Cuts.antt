@@ -8,7 +8,7 @@ use Rattle.rt_pieces.specs.declared.step.Step.TheVariants as step
 use Rattle.rt_pieces.specs.Bytes.{lines_in}
 use Rattle.rt_pieces.specs.Pieces.{base_of, IsPiece}
 use Rattle.rt_pieces.specs.declared.fault.TextFault.TheVariants.{BadCharacter, OpenComment}
-use Rattle.rt_pieces.specs.Cutting.{Piece, End, Clean, Stops, begins_gap, Cut, finish, blank, comment, open_comment, base, digits, piece, bad, place, piece_at, digits_of}
+use Rattle.rt_pieces.specs.Cutting.{Piece, End, Clean, Stops, begins_gap, Cut, finish, blank, comment, open_comment, base, digits, piece, bad, place, piece_at, digits_of, HaveOneCut, HaveSomeCut}
 use Rattle.rt_pieces.specs.Steps.{next_step, step_of, Cuts, Cutter, before, cut_base, cut_piece, after_step, cut_from, cuts_of, weight}
 use Rattle.rt_pieces.proofs.Fronts.{drop_comment}
 use Rattle.rt_pieces.proofs.Steps.{Sees, sees, s_finish, s_blank, s_comment, s_open, s_piece, s_run, s_bad, piece_step, piece_some, run_step, blank_step, open_step, comment_is, bad_step}
@@ -128,6 +128,15 @@ cuts_cut total o n bytes = cut_sound total (weight o bytes + 1) o n bytes (omega
 pub cuts_only : {total : ℕ} {o : Option Opened} {n : ℕ} {bytes : List ℕ} {ps : List Piece} {e : End} → Cut total o n bytes ps e → cuts_of total o n bytes ≡ (ps, e)
 unfolding cuts_of
 cuts_only {o = o} {bytes = bytes} c = cut_complete (weight o bytes + 1) c (omega arith)
+
+pub cut_is : {total : ℕ} {o : Option Opened} {n : ℕ} {bytes : List ℕ} {ps : List Piece} {e : End} → cuts_of total o n bytes ≡ (ps, e) → Cut total o n bytes ps e
+cut_is {total = total} {o = o} {n = n} {bytes = bytes} is = subst (λ (c : Cuts). IsCut total o n bytes c) is (cuts_cut total o n bytes)
+
+pub one_cut : HaveOneCut
+one_cut total o n bytes ps qs d e c k = let same : (ps, d) ≡ (qs, e) = sym (cuts_only c) ∙ cuts_only k in (ap (λ (x : Cuts). x.0) same, ap (λ (x : Cuts). x.1) same)
+
+pub some_cut : HaveSomeCut
+some_cut total o n bytes = ((cuts_of total o n bytes).0, (cuts_of total o n bytes).1, cuts_cut total o n bytes)
 
 one_step_more : (total : ℕ) (o : Option Opened) (n : ℕ) (bytes : List ℕ) → cuts_of total o n bytes ≡ after_step (cut_from total (weight o bytes)) total o n bytes (next_step o bytes)
 unfolding cuts_of cut_from

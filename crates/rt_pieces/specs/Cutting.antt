@@ -48,3 +48,10 @@ pub data Cut (total : ℕ) : Option Opened → ℕ → List ℕ → List Piece �
   piece : {n : ℕ} (text : List ℕ) {bytes rest : List ℕ} {ps : List Piece} {e : End} → bytes ≡ text ++ rest → IsPiece text rest → base_of text ≡ None
       → Cut total None n rest ps e → Cut total None n bytes (piece_at total n bytes text rest ∷ ps) e
   bad : {n b : ℕ} {bs : List ℕ} → is_blank b ≡ false → b ≢ 37 → ((text rest : List ℕ) → b ∷ bs ≡ text ++ rest → IsPiece text rest → ⊥) → Cut total None n (b ∷ bs) [] (Stops (BadCharacter n))
+
+-- the same bytes are cut in one way only, and all bytes are cut in some way
+abbrev pub HaveOneCut : Type 0
+HaveOneCut = (total : ℕ) (o : Option Opened) (n : ℕ) (bytes : List ℕ) (ps qs : List Piece) (d e : End) → Cut total o n bytes ps d → Cut total o n bytes qs e → (ps ≡ qs) × (d ≡ e)
+
+abbrev pub HaveSomeCut : Type 0
+HaveSomeCut = (total : ℕ) (o : Option Opened) (n : ℕ) (bytes : List ℕ) → (ps : List Piece) × (e : End) × Cut total o n bytes ps e

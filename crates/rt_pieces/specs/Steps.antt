@@ -6,12 +6,14 @@ use Rattle.rt_pieces.specs.declared.fault.TextFault.TheVariants.{BadCharacter, O
 use Rattle.rt_pieces.specs.declared.step.Step.{Step}
 use Rattle.rt_pieces.specs.declared.step.Step.TheVariants as step
 use Rattle.rt_pieces.specs.declared.cut.Cursor.{Cursor}
-use Rattle.rt_pieces.specs.declared.cut.Found.{Found}
+use Rattle.rt_pieces.specs.declared.cut.Look.{Look}
+use Rattle.rt_pieces.specs.declared.cut.Look.TheVariants as look
 use Rattle.rt_pieces.specs.declared.cut.Seen.{Seen}
 use Rattle.rt_pieces.specs.declared.cut.Seen.TheVariants as seen
 use Rattle.rt_pieces.specs.Bytes.{is_blank, is_letter, is_digit, is_letter_or_digit, is_printable, in_comment, in_string, lines_in}
 use Rattle.rt_pieces.specs.Pieces.{base_of, mark_of_one, mark_of_two, mark_of_three}
 use Rattle.rt_pieces.specs.Cutting.{Piece, End, Clean, Stops, piece_at, digits_of, place}
+use Rattle.rt_pieces.specs.Begins.{IsInside, found_piece}
 
 abbrev pub comment_step : List ℕ → Step
 comment_step bs = let len = length (take_while in_comment bs) in if len == length bs then step.Open else step.Skip (len + 2) (lines_in (take len bs))
@@ -111,32 +113,21 @@ weight o bytes = 2 * length bytes + pending o
 unfoldable pub cuts_of : ℕ → Cutter
 cuts_of total o n bytes = cut_from total (weight o bytes + 1) o n bytes
 
--- the place lies in a text of so many bytes, none of whose lines is passed over
-pub record IsInside (total line : ℕ) (bytes : List ℕ) : Type 0 where
-  pub first : 1 ≤ line
-  pub last : line + length bytes ≤ total + 1
-
-abbrev pub found_piece : Found → Piece
-found_piece found = record { base = found.base; text = found.text.now; line = found.span.line; from = found.span.from; to = found.span.to }
-
--- the cut goes on there as it does here
-pub record GoesOn (total : ℕ) (o : Option Opened) (n : ℕ) (bytes : List ℕ) (next : Cursor) (left : Cuts) : Type 0 where
-  pub cuts : cuts_of total o n bytes ≡ left
-  pub inside : IsInside total next.line next.rest.now
-  pub smaller : weight next.opened next.rest.now < weight o bytes
-
 abbrev pub cuts_at : ℕ → Cursor → Cuts
 cuts_at total cursor = cuts_of total cursor.opened cursor.line cursor.rest.now
 
--- what the cut of these bytes begins with
+-- what is left there comes to this cut, and behind a step, which leaves less, the rest lies in the text
+pub record GoesOn (total : ℕ) (o : Option Opened) (n : ℕ) (bytes : List ℕ) (p : Option Opened) (m : ℕ) (rest : List ℕ) (cuts : Cuts) : Type 0 where
+  pub is : cuts_of total o n bytes ≡ cuts
+  pub inside : IsInside total m rest
+  pub smaller : weight p rest < weight o bytes
+
+-- what is seen at a place
 abbrev pub SeesAt : ℕ → Option Opened → ℕ → List ℕ → Seen → Type 0
 SeesAt total o n bytes seen.End = cuts_of total o n bytes ≡ ([], Clean)
 SeesAt total o n bytes (seen.Fault f) = cuts_of total o n bytes ≡ ([], Stops f)
-SeesAt total o n bytes (seen.Gap next) = GoesOn total o n bytes next (cuts_at total next)
-SeesAt total o n bytes (seen.Piece found next) = GoesOn total o n bytes next (before (found_piece found) (cuts_at total next))
+SeesAt total o n bytes (seen.Piece found rest) = GoesOn total o n bytes None rest.line rest.bytes.now (before (found_piece found) (cuts_of total None rest.line rest.bytes.now))
 
-abbrev pub IsNoGap : Seen → Type 0
-IsNoGap seen.End = Unit {0}
-IsNoGap (seen.Fault f) = Unit {0}
-IsNoGap (seen.Gap next) = ⊥
-IsNoGap (seen.Piece found next) = Unit {0}
+abbrev pub LooksAt : ℕ → Option Opened → ℕ → List ℕ → Look → Type 0
+LooksAt total o n bytes (look.Gap next) = GoesOn total o n bytes next.opened next.line next.rest.now (cuts_at total next)
+LooksAt total o n bytes (look.Sees s) = SeesAt total o n bytes s

@@ -5,6 +5,7 @@ ghost use Rattle.rt_pieces.specs.Pieces as pieces;
 
 use crate::item::Mark;
 
+/// The mark of this one byte.
 pub fn mark_of_one(a: u8) -> Option<Mark>
     ensures { result ≡ pieces.mark_of_one a }
 {
@@ -26,6 +27,7 @@ pub fn mark_of_one(a: u8) -> Option<Mark>
     }
 }
 
+/// The mark of these two bytes.
 pub fn mark_of_two(a: u8, b: u8) -> Option<Mark>
     ensures { result ≡ pieces.mark_of_two a b }
 {
@@ -38,6 +40,7 @@ pub fn mark_of_two(a: u8, b: u8) -> Option<Mark>
     }
 }
 
+/// The mark of these three bytes.
 pub fn mark_of_three(a: u8, b: u8, c: u8) -> Option<Mark>
     ensures { result ≡ pieces.mark_of_three a b c }
 {
@@ -48,6 +51,7 @@ pub fn mark_of_three(a: u8, b: u8, c: u8) -> Option<Mark>
     }
 }
 
+/// The mark that is written so.
 pub fn mark_of(text: &[u8]) -> Option<Mark>
     ensures { result ≡ pieces.mark_of text.now }
 {

@@ -22,6 +22,7 @@ pub struct Opened {
     pub from: u32,
 }
 
+/// How many digits the base has.
 pub fn radix(base: Base) -> u32
     ensures { result ≡ pieces.radix base }
 {
@@ -32,6 +33,7 @@ pub fn radix(base: Base) -> u32
     }
 }
 
+/// What a digit stands for, from 0 to 9 and from A to Z.
 pub fn digit_value(b: u8) -> u8
     ensures { result ≡ spec.digit_value b }
 {
@@ -42,13 +44,14 @@ pub fn digit_value(b: u8) -> u8
     }
 }
 
+/// Whether the byte is a digit of this base, as a number from 2 to 16.
 pub fn is_digit_of(base: u32, b: u8) -> bool
     ensures { result ≡ spec.is_digit_of base b }
 {
     is_letter_or_digit(b) && u32::from(digit_value(b)) + 1 <= base
 }
 
-/// The number that the digits say, or 65,536 where it is larger.
+/// The number that the digits say in this base, or 65,536 where it is larger.
 pub fn value_of(base: u32, text: &[u8]) -> u32
     requires low { 1 ≤ base }
     requires high { base ≤ 16 }

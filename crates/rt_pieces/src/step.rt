@@ -39,6 +39,7 @@ fn comment_len(bytes: &[u8]) -> usize
     bytes.iter().take_while(|b| **b != 37).count()
 }
 
+/// How many bytes there are up to the next quotation mark or line end, or to the end where none comes.
 pub fn string_len(bytes: &[u8]) -> usize
     ensures { result ≡ length (take_while bytes_of.in_string bytes.now) }
 {

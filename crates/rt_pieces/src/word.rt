@@ -7,6 +7,7 @@ ghost use Rattle.rt_pieces.specs.Pieces as pieces;
 use crate::bytes::same;
 use crate::item::Word;
 
+/// Each reserved word once.
 pub const WORDS: [Word; 54] = [
     Word::Title,
     Word::Option,
@@ -128,7 +129,7 @@ impl Word {
     }
 }
 
-/// The reserved word that is spelled so.
+/// The reserved word that is spelled so, in upper case.
 pub fn word_of(text: &[u8]) -> Option<Word>
     ensures { result ≡ pieces.word_of text.now }
 {

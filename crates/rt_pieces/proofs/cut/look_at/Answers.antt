@@ -2,7 +2,7 @@ use Rattle.std.proofs.Common.{refl}
 use Rattle.rt_pieces.proofs.Fronts.{tail_is}
 use Rattle.rt_pieces.proofs.Cuts.{cuts_finish, cuts_open, cuts_bad}
 use Rattle.rt_pieces.proofs.Looking.{skip_goes}
-use Rattle.rt_pieces.proofs.cut.look.Goals as goal
+use Rattle.rt_pieces.proofs.cut.look_at.Goals as goal
 
 pub returns-in-Finish : goal.returns-in-Finish
 returns-in-Finish c = cuts_finish c.args.total c.args.cursor.opened c.args.cursor.line c.args.cursor.rest.now c.in-Finish.ensures.step
@@ -15,4 +15,4 @@ returns-in-Bad c = cuts_bad c.args.total c.args.cursor.opened c.args.cursor.line
 
 pub returns-in-Skip : goal.returns-in-Skip
 returns-in-Skip c =
-    skip_goes c.args.total c.args.cursor.opened c.args.cursor.line c.args.cursor.rest.now c.in-Skip.len c.in-Skip.lines _ c.in-Skip.ensures.step c.in-Skip.ensures.within c.requires.inside refl refl (tail_is c.args.cursor.rest.now c.in-Skip.len)
+    skip_goes c.args.total c.args.cursor.opened c.args.cursor.line c.args.cursor.rest.now c.in-Skip.len c.in-Skip.lines _ _ _ c.in-Skip.ensures.step c.in-Skip.ensures.within c.requires.inside refl refl (tail_is c.args.cursor.rest.now c.in-Skip.len)
