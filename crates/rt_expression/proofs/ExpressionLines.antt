@@ -1,8 +1,8 @@
 -- The parser of each line of expressions and conditions is right for its line.
 use Rattle.std.proofs.Common.{◌≡◌, ◌≢◌, ℕ, zero, suc, ◌<◌, ◌≤◌, if◌then◌else◌, List, [], ◌∷◌, ◌⊎◌, refl, arith}
-use Rattle.rt_items.specs.declared.item.Item.{Item}
-use Rattle.rt_items.specs.declared.item.Mark.TheVariants as m
-use Rattle.rt_items.specs.declared.item.Word.TheVariants as w
+use Rattle.rt_pieces.specs.declared.item.Item.{Item}
+use Rattle.rt_pieces.specs.declared.item.Mark.TheVariants as m
+use Rattle.rt_pieces.specs.declared.item.Word.TheVariants as w
 use Rattle.rt_grammar.specs.declared.next.Next.{Next}
 use Rattle.rt_grammar.specs.declared.next.Next.TheVariants as next
 use Rattle.rt_grammar.specs.Parts.{Part, next_of}

@@ -1,7 +1,7 @@
 -- The grammar of expressions and conditions, one part for each line.
 use Rattle.std.specs.Prelude.{ℕ, zero, suc, List, [], ◌∷◌}
-use Rattle.rt_items.specs.declared.item.Mark.TheVariants as m
-use Rattle.rt_items.specs.declared.item.Word.TheVariants as w
+use Rattle.rt_pieces.specs.declared.item.Mark.TheVariants as m
+use Rattle.rt_pieces.specs.declared.item.Word.TheVariants as w
 use Rattle.rt_grammar.specs.declared.at.At.{At}
 use Rattle.rt_grammar.specs.Parts.{Part, nothing, never, either, ◌>>=◌, turns, at_most, within, here, mark, word, number, text, ident, listed_in, push}
 use Rattle.rt_expression.specs.declared.limits.Context.{Context}

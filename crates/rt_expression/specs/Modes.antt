@@ -1,7 +1,7 @@
 -- The grammar of modes, one part for each line.
 use Rattle.std.specs.Prelude.{ℕ, zero, suc, ◌-◌, List, [], ◌∷◌}
-use Rattle.rt_items.specs.declared.item.Mark.TheVariants as m
-use Rattle.rt_items.specs.declared.item.Word.TheVariants as w
+use Rattle.rt_pieces.specs.declared.item.Mark.TheVariants as m
+use Rattle.rt_pieces.specs.declared.item.Word.TheVariants as w
 use Rattle.rt_grammar.specs.Parts.{Part, nothing, never, either, ◌>>=◌, optional, up_to, starting, within, here, mark, word, number, ident, listed_in, push}
 use Rattle.rt_expression.specs.declared.limits.Context.{Context}
 use Rattle.rt_expression.specs.declared.tree.WrittenMode.{WrittenMode}

@@ -1,7 +1,7 @@
 -- Operators, relations and first words, by what comes next.
 use Rattle.std.specs.Prelude.{Bool, true, false, Option, Some, None}
-use Rattle.rt_items.specs.declared.item.Mark.TheVariants as m
-use Rattle.rt_items.specs.declared.item.Word.TheVariants as w
+use Rattle.rt_pieces.specs.declared.item.Mark.TheVariants as m
+use Rattle.rt_pieces.specs.declared.item.Word.TheVariants as w
 use Rattle.rt_grammar.specs.declared.next.Next.{Next}
 use Rattle.rt_grammar.specs.declared.next.Next.TheVariants as next
 use Rattle.rt_expression.specs.declared.tree.Op1.{Op1}

@@ -9,7 +9,7 @@ use crate::limits::Context;
 use crate::table::relation_of;
 use crate::tree::Cond;
 use rt_grammar::{At, Stop, after_word, at_of, found_in, next_of, word_comes};
-use rt_items::{Item, Word};
+use rt_pieces::{Item, Word};
 use rt_words::List;
 use std::alloc::Global;
 

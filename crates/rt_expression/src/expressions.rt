@@ -16,7 +16,7 @@ use rt_grammar::{
     At, Ident, Next, Stop, after_mark, after_word, at_of, found_in, ident, mark_comes, next_of,
     number, open_mark, text,
 };
-use rt_items::{Item, Mark, Word};
+use rt_pieces::{Item, Mark, Word};
 use rt_words::{Boxed, List, Memory};
 use std::alloc::Global;
 

@@ -3,7 +3,7 @@
 ghost use Rattle.std.specs.Prelude.{◌≡◌, ◌-◌, IfOk};
 ghost use Rattle.rt_grammar.specs.Parsing as parse;
 ghost use Rattle.rt_grammar.specs.Parsing.{Gives};
-ghost use Rattle.rt_items.specs.declared.item.Word.TheVariants as word;
+ghost use Rattle.rt_pieces.specs.declared.item.Word.TheVariants as word;
 ghost use Rattle.rt_expression.specs.ModeParser as reads;
 
 use crate::limits::Context;
@@ -13,7 +13,7 @@ use rt_grammar::{
     At, Next, Stop, after_mark, after_word, at_of, found_in, ident, mark_comes, next_of, number,
     open_mark, open_word, word_comes,
 };
-use rt_items::{Item, Mark, Word};
+use rt_pieces::{Item, Mark, Word};
 use rt_words::{Boxed, List, Memory};
 use std::alloc::Global;
 

@@ -6,7 +6,7 @@ ghost use Rattle.rt_expression.specs.Tables as tables;
 
 use crate::tree::{BasicMode, Op1, Op2, Rel};
 use rt_grammar::Next;
-use rt_items::{Mark, Word};
+use rt_pieces::{Mark, Word};
 
 /// The dyadic operators that bind alike, the tightest first.
 #[derive(Clone, Copy)]

@@ -1,10 +1,10 @@
 -- A choice that is right for what comes next, and a part any number of times.
 use Rattle.std.proofs.Common.{◌≡◌, ℕ, zero, suc, ◌<◌, ◌≤◌, Bool, true, false, cond, List, [], ◌∷◌, length, Some, None, Ok, Err, ◌⊎◌, inl, inr, refl, sym, ap, subst, ◌∙◌, arith}
 use Rattle.std.proofs.lemmas.Bool.{cases_lt}
-use Rattle.rt_items.specs.declared.item.Item.{Item}
+use Rattle.rt_pieces.specs.declared.item.Item.{Item}
 use Rattle.rt_grammar.specs.declared.next.Next.{Next}
-use Rattle.rt_items.specs.declared.item.Mark.{Mark}
-use Rattle.rt_items.specs.declared.item.Word.{Word}
+use Rattle.rt_pieces.specs.declared.item.Mark.{Mark}
+use Rattle.rt_pieces.specs.declared.item.Word.{Word}
 use Rattle.rt_grammar.specs.Parts.{Part, either, optional, up_to, Turns, stop, turn, BeginsTurns, begun, turned, turns, next_of}
 use Rattle.rt_grammar.specs.Parts as part
 use Rattle.rt_grammar.specs.Parsing.{Outcome, Parser, and_then, turns_from, left}

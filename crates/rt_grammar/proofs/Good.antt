@@ -1,7 +1,7 @@
 -- A parser that is right for a part of the grammar, and how such parsers are put together.
 use Rattle.std.proofs.Common.{◌≡◌, ℕ, zero, suc, ◌<◌, ◌≤◌, List, [], ◌∷◌, length, Option, Some, None, Ok, Err, ◌⊎◌, inl, inr, refl, sym, ap, subst, ◌∙◌, arith}
 use Rattle.std.proofs.lemmas.Bool.{cases_lt}
-use Rattle.rt_items.specs.declared.item.Item.{Item}
+use Rattle.rt_pieces.specs.declared.item.Item.{Item}
 use Rattle.rt_grammar.specs.Parts.{Part, nothing, never, one, either, Turns, BeginsTurns, turns, next_of, next_by, at_of, here, within}
 use Rattle.rt_grammar.specs.Parts as part
 use Rattle.rt_grammar.specs.declared.at.At.{At}

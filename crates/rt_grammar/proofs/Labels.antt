@@ -1,10 +1,10 @@
 -- Labels and then a part that may begin with a name, too: the parser looks at two items.
 use Rattle.std.proofs.Common.{◌≡◌, ℕ, zero, suc, ◌<◌, ◌≤◌, Bool, true, false, cond, List, [], ◌∷◌, length, Ok, Err, ◌⊎◌, inl, inr, refl, sym, ap, subst, ◌∙◌, arith}
 use Rattle.std.proofs.lemmas.Bool.{cases_lt}
-use Rattle.rt_items.specs.declared.item.Item.{Item}
-use Rattle.rt_items.specs.declared.item.ItemKind.{ItemKind}
-use Rattle.rt_items.specs.declared.item.ItemKind.TheVariants as kind
-use Rattle.rt_items.specs.declared.item.Mark.TheVariants as m
+use Rattle.rt_pieces.specs.declared.item.Item.{Item}
+use Rattle.rt_pieces.specs.declared.item.ItemKind.{ItemKind}
+use Rattle.rt_pieces.specs.declared.item.ItemKind.TheVariants as kind
+use Rattle.rt_pieces.specs.declared.item.Mark.TheVariants as m
 use Rattle.rt_grammar.specs.declared.at.Ident.{Ident}
 use Rattle.rt_grammar.specs.declared.next.Next.TheVariants as next
 use Rattle.rt_grammar.specs.Parts.{Part, Turns, stop, turn, BeginsTurns, begun, turned, turns, next_of, next_by, label, push}

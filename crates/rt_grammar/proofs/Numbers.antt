@@ -3,13 +3,13 @@
 use Rattle.std.proofs.Common.{◌≡◌, ℕ, ◌≤◌, Bool, true, false, if◌then◌else◌, eqb, leb, List, Option, Some, None, ◌⊎◌, inl, inr, refl, sym, ap, ◌∙◌, arith}
 use Rattle.std.proofs.lemmas.Bool.{leb-true, leb-false}
 use denote.Enum.Bare.{same_true}
-use Rattle.rt_items.specs.declared.item.Item.{Item}
-use Rattle.rt_items.specs.declared.item.Mark.{Mark}
-use Rattle.rt_items.specs.declared.item.Mark.TheVariants as m
-use Rattle.rt_items.specs.declared.item.Word.{Word}
-use Rattle.rt_items.specs.declared.item.Word.TheVariants as w
-use Rattle.rt_items.specs.contracts.item.Mark as mark_type
-use Rattle.rt_items.specs.contracts.item.Word as word_type
+use Rattle.rt_pieces.specs.declared.item.Item.{Item}
+use Rattle.rt_pieces.specs.declared.item.Mark.{Mark}
+use Rattle.rt_pieces.specs.declared.item.Mark.TheVariants as m
+use Rattle.rt_pieces.specs.declared.item.Word.{Word}
+use Rattle.rt_pieces.specs.declared.item.Word.TheVariants as w
+use Rattle.rt_pieces.specs.contracts.item.Mark as mark_type
+use Rattle.rt_pieces.specs.contracts.item.Word as word_type
 use Rattle.rt_grammar.specs.declared.next.Next.{Next}
 use Rattle.rt_grammar.specs.declared.next.Next.TheVariants as next
 use Rattle.rt_grammar.specs.Parts.{next_of}

@@ -1,11 +1,11 @@
 -- The parsers of one item are right.
 use Rattle.std.proofs.Common.{◌≡◌, ℕ, Bool, true, false, List, [], ◌∷◌, Option, Some, refl, sym, ap, arith}
 use Rattle.rt_grammar.specs.declared.next.Next.{Next}
-use Rattle.rt_items.specs.declared.item.Item.{Item}
-use Rattle.rt_items.specs.declared.item.ItemKind.{ItemKind}
-use Rattle.rt_items.specs.declared.item.ItemKind.TheVariants as kind
-use Rattle.rt_items.specs.declared.item.Mark.{Mark}
-use Rattle.rt_items.specs.declared.item.Word.{Word}
+use Rattle.rt_pieces.specs.declared.item.Item.{Item}
+use Rattle.rt_pieces.specs.declared.item.ItemKind.{ItemKind}
+use Rattle.rt_pieces.specs.declared.item.ItemKind.TheVariants as kind
+use Rattle.rt_pieces.specs.declared.item.Mark.{Mark}
+use Rattle.rt_pieces.specs.declared.item.Word.{Word}
 use Rattle.rt_grammar.specs.Parts.{next_by}
 use Rattle.rt_grammar.specs.Parts as part
 use Rattle.rt_grammar.specs.Parsing.{same_mark, same_word, some_if, mark_in, word_in, name_in, number_in, text_in}

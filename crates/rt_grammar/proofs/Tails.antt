@@ -1,6 +1,6 @@
 -- What is left of a list after some of its items.
 use Rattle.std.proofs.Common.{◌≡◌, ◌≤◌, List, ◌∷◌, length, refl, arith}
-use Rattle.rt_items.specs.declared.item.Item.{Item}
+use Rattle.rt_pieces.specs.declared.item.Item.{Item}
 
 pub data Tail : List Item → List Item → Type 0 where
   all : {l : List Item} → Tail l l

@@ -1,7 +1,7 @@
 -- A limit on the items of a part, a test of its first item, and two lines that begin alike.
 use Rattle.std.proofs.Common.{◌≡◌, ℕ, ◌+◌, ◌-◌, ◌<◌, ◌≤◌, Bool, true, false, cond, leb, List, length, Ok, Err, ◌⊎◌, inl, inr, refl, ap, arith}
 use Rattle.std.proofs.lemmas.Bool.{leb-true, leb-false, le-leb}
-use Rattle.rt_items.specs.declared.item.Item.{Item}
+use Rattle.rt_pieces.specs.declared.item.Item.{Item}
 use Rattle.rt_grammar.specs.Parts.{Part, either, ◌>>=◌, at_most, starting, next_of}
 use Rattle.rt_grammar.specs.Parsing as parse
 use Rattle.rt_grammar.specs.declared.next.Next.{Next}

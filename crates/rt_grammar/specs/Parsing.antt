@@ -1,14 +1,14 @@
 -- Steps of a parser that goes from the left.
 use Rattle.std.specs.Prelude.{◌≡◌, ℕ, zero, suc, ◌-◌, Bool, true, false, if◌then◌else◌, leb, List, [], ◌∷◌, length, Option, Some, None, Result, Ok, Err}
 use denote.Enum.Bare.{sameb}
-use Rattle.rt_items.specs.declared.item.Item.{Item}
-use Rattle.rt_items.specs.declared.item.ItemKind.{ItemKind}
-use Rattle.rt_items.specs.declared.item.ItemKind.TheVariants as kind
-use Rattle.rt_items.specs.declared.item.Mark.{Mark}
-use Rattle.rt_items.specs.declared.item.Mark.TheVariants.{Colon as colon}
-use Rattle.rt_items.specs.declared.item.Word.{Word}
-use Rattle.rt_items.specs.contracts.item.Mark as mark_type
-use Rattle.rt_items.specs.contracts.item.Word as word_type
+use Rattle.rt_pieces.specs.declared.item.Item.{Item}
+use Rattle.rt_pieces.specs.declared.item.ItemKind.{ItemKind}
+use Rattle.rt_pieces.specs.declared.item.ItemKind.TheVariants as kind
+use Rattle.rt_pieces.specs.declared.item.Mark.{Mark}
+use Rattle.rt_pieces.specs.declared.item.Mark.TheVariants.{Colon as colon}
+use Rattle.rt_pieces.specs.declared.item.Word.{Word}
+use Rattle.rt_pieces.specs.contracts.item.Mark as mark_type
+use Rattle.rt_pieces.specs.contracts.item.Word as word_type
 use Rattle.rt_grammar.specs.declared.next.Next.{Next}
 use Rattle.rt_grammar.specs.declared.next.Next.TheVariants as next
 use Rattle.rt_grammar.specs.declared.stop.Stop.{Stop}

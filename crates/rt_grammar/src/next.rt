@@ -1,4 +1,4 @@
-use rt_items::{Mark, Word};
+use rt_pieces::{Mark, Word};
 
 /// What comes next, as far as the grammar looks at it.
 #[derive(Clone, Copy, Debug, PartialEq, Eq)]

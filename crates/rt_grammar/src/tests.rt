@@ -1,5 +1,5 @@
 use super::*;
-use rt_items::{Item, ItemKind, Mark};
+use rt_pieces::{Item, ItemKind, Mark};
 use rt_words::{List, Name};
 use std::test::Fail;
 

@@ -8,7 +8,7 @@ ghost use Rattle.rt_grammar.specs.Parsing.{Gives};
 use crate::at::{At, Ident};
 use crate::next::Next;
 use crate::stop::Stop;
-use rt_items::{Item, ItemKind, Mark, Word};
+use rt_pieces::{Item, ItemKind, Mark, Word};
 use rt_words::{Bytes, Name};
 use std::alloc::Global;
 

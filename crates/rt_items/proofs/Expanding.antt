@@ -3,17 +3,18 @@ use Rattle.std.proofs.Common.{◌≡◌, ℕ, zero, suc, ◌+◌, ◌<◌, ◌�
 use Rattle.std.proofs.lemmas.Bool.Decides.{nat_tests}
 use Rattle.std.proofs.lemmas.List.{append-nil, length-map}
 use Rattle.std.proofs.Math.Path.{fun_ext}
-use Rattle.rt_items.specs.declared.item.Item.{Item}
-use Rattle.rt_items.specs.declared.item.ItemKind.{ItemKind}
-use Rattle.rt_items.specs.declared.fault.TextFault.{TextFault}
-use Rattle.rt_items.specs.declared.fault.TextFault.TheVariants.{Memory, BadLet, TooManyItems}
+use Rattle.rt_pieces.specs.declared.item.Item.{Item}
+use Rattle.rt_pieces.specs.declared.item.ItemKind.{ItemKind}
+use Rattle.rt_pieces.specs.declared.fault.TextFault.{TextFault}
+use Rattle.rt_pieces.specs.declared.fault.TextFault.TheVariants.{Memory, BadLet, TooManyItems}
 use Rattle.rt_items.specs.declared.expand.State.{State as Code}
 use Rattle.rt_items.specs.Texts.{Lets}
-use Rattle.rt_items.specs.Cutting.{Piece, End, Clean, Stops}
+use Rattle.rt_pieces.specs.Cutting.{Piece, End, Clean, Stops}
 use Rattle.rt_items.specs.Meaning.{Meant, meaning}
 use Rattle.rt_items.specs.Lets.{Reading, with_let, replaced, item_at, items_at, is_let, is_semicolon, is_equal, name_of, with_items, at_end, Declared, LetText, with_text, text_goes_on, text_piece, let_text, declares, behind_equal, behind_name, if_named, named_by, declaration, Expands, ended, spoiled, item, too_many, declared, undeclared}
 use Rattle.rt_items.specs.Table.{Known, lets_of}
-use Rattle.rt_items.specs.Reading.{State, Plain, Behind, Named, Within, state_of, Next, Goes, Fails, turn, turn_meant, within, after_turn, expand, Answers, Turns, Cuts, before, reading_from}
+use Rattle.rt_pieces.specs.Steps.{Cuts, before}
+use Rattle.rt_items.specs.Reading.{State, Plain, Behind, Named, Within, state_of, Next, Goes, Fails, turn, turn_meant, within, after_turn, expand, Answers, Turns, reading_from}
 
 pub with_none : (r : Reading) → with_items [] r ≡ r
 with_none (Ok is) = refl

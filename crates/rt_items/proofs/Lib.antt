@@ -1,7 +1,3 @@
-pub mod Fronts
-pub mod Steps
-pub mod Cuts
-pub mod Looking
 pub mod Ropes
 pub mod Tables
 pub mod Strings

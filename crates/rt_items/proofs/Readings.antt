@@ -1,17 +1,18 @@
 -- Each text has one reading.
 use Rattle.std.proofs.Common.{◌≡◌, ◌≢◌, ℕ, ◌≤◌, List, [], length, None, Ok, Err, ◌⊎◌, inl, inr, refl, sym, ap, subst, ◌∙◌}
 use Rattle.std.specs.Prelude.{IfOk, IfErr}
-use Rattle.rt_items.specs.declared.item.Item.{Item}
-use Rattle.rt_items.specs.declared.item.ItemKind.{ItemKind}
-use Rattle.rt_items.specs.declared.fault.TextFault.{TextFault}
-use Rattle.rt_items.specs.declared.fault.TextFault.TheVariants.{Memory}
+use Rattle.rt_pieces.specs.declared.item.Item.{Item}
+use Rattle.rt_pieces.specs.declared.item.ItemKind.{ItemKind}
+use Rattle.rt_pieces.specs.declared.fault.TextFault.{TextFault}
+use Rattle.rt_pieces.specs.declared.fault.TextFault.TheVariants.{Memory}
 use Rattle.rt_items.specs.declared.expand.State.{State as Code}
 use Rattle.rt_items.specs.declared.expand.State.TheVariants as code
 use Rattle.rt_items.specs.Texts.{Lets}
-use Rattle.rt_items.specs.Cutting.{Clean, Stops}
+use Rattle.rt_pieces.specs.Cutting.{Clean, Stops}
 use Rattle.rt_items.specs.Lets.{Reading, Items, no_lets, with_items, HaveOneReading, HaveSomeReading}
-use Rattle.rt_items.specs.Reading.{State, Plain, Behind, Named, Within, state_of, Answers, Cuts, cuts_of, end_of, expand, reading_from, reading_of}
-use Rattle.rt_items.proofs.Cuts.{cuts_cut, cuts_only}
+use Rattle.rt_pieces.specs.Steps.{Cuts, cuts_of}
+use Rattle.rt_items.specs.Reading.{State, Plain, Behind, Named, Within, state_of, Answers, end_of, expand, reading_from, reading_of}
+use Rattle.rt_pieces.proofs.Cuts.{cuts_cut, cuts_only}
 use Rattle.rt_items.proofs.Expanding.{with_none, expand_sound, expand_complete, answers_same, at_most_limit}
 
 reads_it : (bytes : List ℕ) → Items bytes (reading_of bytes)

@@ -1,11 +1,11 @@
 -- Texts in parts.
 use Rattle.std.proofs.Common.{◌≡◌, ℕ, zero, suc, ◌+◌, ◌*◌, ◌-◌, ◌<◌, ◌≤◌, List, [], ◌∷◌, ◌++◌, length, Some, None, refl, sym, ap, subst, ◌∙◌, arith, length-append, append_assoc, zero-add}
 use Rattle.std.proofs.lemmas.List.{append-nil, map-append}
-use Rattle.rt_items.specs.declared.item.Item.{Item}
+use Rattle.rt_pieces.specs.declared.item.Item.{Item}
 use Rattle.rt_items.specs.declared.rope.Join.{Join}
 use Rattle.rt_items.specs.Lets.{items_at}
 use Rattle.std.specs.List.{slice_get}
-use Rattle.rt_items.specs.declared.item.ItemKind.TheVariants as kind
+use Rattle.rt_pieces.specs.declared.item.ItemKind.TheVariants as kind
 use Rattle.rt_items.specs.declared.rope.Node.{Node}
 use Rattle.rt_items.specs.declared.rope.Node.TheVariants as node
 use Rattle.rt_items.specs.Ropes.{Kinds, nth_text, node_text, grown, IsBuilt, AreBuilt, Keeps, rest_text, steps_left, one_number}

@@ -3,12 +3,12 @@ use Rattle.std.proofs.Common.{◌≡◌, ℕ, ◌+◌, ◌<◌, Bool, true, fals
 use Rattle.std.specs.Prelude.{take_while, nat_lt}
 use Rattle.std.proofs.lemmas.Bool.{eqb-true, eq-eqb}
 use Rattle.std.proofs.lemmas.List.{take_at, drop_at}
-use Rattle.rt_items.specs.declared.fault.TextFault.{TextFault}
-use Rattle.rt_items.specs.declared.fault.TextFault.TheVariants.{Memory, BadCharacter}
-use Rattle.rt_items.specs.Bytes.{is_printable, in_string, Each, Ends}
+use Rattle.rt_pieces.specs.declared.fault.TextFault.{TextFault}
+use Rattle.rt_pieces.specs.declared.fault.TextFault.TheVariants.{Memory, BadCharacter}
+use Rattle.rt_pieces.specs.Bytes.{is_printable, in_string, Each, Ends}
 use Rattle.rt_items.specs.Texts.{Lets, Given, followed, behind_fault, with_bytes, Gives, parts, onto_first, characters, value, values, in_turn, from_insert, closing, failing, unfinished, result_map, PairGives, InsertGives, limited, string_of}
 use Rattle.rt_items.specs.Reading.{Answers}
-use Rattle.rt_items.proofs.Fronts.{front, front_is, front_length, each_front, ends_front, parts_front, whole_front, neq_eqb}
+use Rattle.rt_pieces.proofs.Fronts.{front, front_is, front_length, each_front, ends_front, parts_front, whole_front, neq_eqb}
 
 abbrev given : List ℕ → Option TextFault → Given
 given bytes fault = record { bytes = bytes; fault = fault }

@@ -1,15 +1,15 @@
 -- LETs are taken out of the pieces, and their names are replaced.
 use Rattle.std.specs.Prelude.{◌≡◌, ℕ, ◌+◌, ◌<◌, ◌≤◌, Bool, true, false, nat_le, if◌then◌else◌, List, [], ◌∷◌, ◌++◌, map, length, Option, Some, None, Result, Ok, Err}
 use Rattle.std.specs.Str.{bytes_eq}
-use Rattle.rt_items.specs.declared.item.Word.TheVariants as w
-use Rattle.rt_items.specs.declared.item.Mark.TheVariants as m
-use Rattle.rt_items.specs.declared.item.Item.{Item}
-use Rattle.rt_items.specs.declared.item.ItemKind.{ItemKind}
-use Rattle.rt_items.specs.declared.item.ItemKind.TheVariants as kind
-use Rattle.rt_items.specs.declared.fault.TextFault.{TextFault}
-use Rattle.rt_items.specs.declared.fault.TextFault.TheVariants.{Memory, BadLet, TooManyItems}
+use Rattle.rt_pieces.specs.declared.item.Word.TheVariants as w
+use Rattle.rt_pieces.specs.declared.item.Mark.TheVariants as m
+use Rattle.rt_pieces.specs.declared.item.Item.{Item}
+use Rattle.rt_pieces.specs.declared.item.ItemKind.{ItemKind}
+use Rattle.rt_pieces.specs.declared.item.ItemKind.TheVariants as kind
+use Rattle.rt_pieces.specs.declared.fault.TextFault.{TextFault}
+use Rattle.rt_pieces.specs.declared.fault.TextFault.TheVariants.{Memory, BadLet, TooManyItems}
 use Rattle.rt_items.specs.Texts.{Lets}
-use Rattle.rt_items.specs.Cutting.{Piece, End, Clean, Stops, Cut}
+use Rattle.rt_pieces.specs.Cutting.{Piece, End, Clean, Stops, Cut}
 use Rattle.rt_items.specs.Meaning.{Meant, meaning}
 
 -- no LET name is in force

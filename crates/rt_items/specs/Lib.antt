@@ -1,6 +1,3 @@
-pub mod Bytes
-pub mod Pieces
-pub mod Cutting
 pub mod Texts
 pub mod Meaning
 pub mod Lets

@@ -1,18 +1,18 @@
 -- What a piece means: an item, or its fault.
 use Rattle.std.specs.Prelude.{ℕ, Bool, true, false, ◌==◌, nat_le, if◌then◌else◌, List, [], ◌∷◌, map, length, Option, Some, None, Result, Ok, Err}
 use Rattle.std.specs.List.{list_all}
-use Rattle.rt_items.specs.declared.item.Word.{Word}
-use Rattle.rt_items.specs.declared.item.Word.TheVariants as w
-use Rattle.rt_items.specs.declared.item.Mark.{Mark}
-use Rattle.rt_items.specs.declared.item.ItemKind.{ItemKind}
-use Rattle.rt_items.specs.declared.item.ItemKind.TheVariants as kind
-use Rattle.rt_items.specs.declared.number.Base.{Base}
-use Rattle.rt_items.specs.declared.fault.TextFault.{TextFault}
-use Rattle.rt_items.specs.declared.fault.TextFault.TheVariants.{BadCharacter, NumberTooLarge, LeftOutWord}
-use Rattle.rt_items.specs.Bytes.{is_letter, is_digit, is_digit_of, upper, number_of}
-use Rattle.rt_items.specs.Pieces.{word_of, mark_of, radix}
+use Rattle.rt_pieces.specs.declared.item.Word.{Word}
+use Rattle.rt_pieces.specs.declared.item.Word.TheVariants as w
+use Rattle.rt_pieces.specs.declared.item.Mark.{Mark}
+use Rattle.rt_pieces.specs.declared.item.ItemKind.{ItemKind}
+use Rattle.rt_pieces.specs.declared.item.ItemKind.TheVariants as kind
+use Rattle.rt_pieces.specs.declared.number.Base.{Base}
+use Rattle.rt_pieces.specs.declared.fault.TextFault.{TextFault}
+use Rattle.rt_pieces.specs.declared.fault.TextFault.TheVariants.{BadCharacter, NumberTooLarge, LeftOutWord}
+use Rattle.rt_pieces.specs.Bytes.{is_letter, is_digit, is_digit_of, upper, number_of}
+use Rattle.rt_pieces.specs.Pieces.{word_of, mark_of, radix}
 use Rattle.rt_items.specs.Texts.{Lets, string_of}
-use Rattle.rt_items.specs.Cutting.{Piece}
+use Rattle.rt_pieces.specs.Cutting.{Piece}
 
 abbrev pub Meant : Type 0
 Meant = Result ItemKind TextFault

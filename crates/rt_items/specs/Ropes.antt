@@ -1,7 +1,7 @@
 -- LET texts in parts: each text is a run of items, or two earlier texts, one behind the other.
 use Rattle.std.specs.Prelude.{◌≡◌, ℕ, zero, suc, ◌+◌, ◌*◌, ◌-◌, ◌≤◌, List, [], ◌∷◌, ◌++◌, length, Option, Some, None}
-use Rattle.rt_items.specs.declared.item.ItemKind.{ItemKind}
-use Rattle.rt_items.specs.declared.item.ItemKind.TheVariants as kind
+use Rattle.rt_pieces.specs.declared.item.ItemKind.{ItemKind}
+use Rattle.rt_pieces.specs.declared.item.ItemKind.TheVariants as kind
 use Rattle.rt_items.specs.declared.rope.Node.{Node}
 use Rattle.rt_items.specs.declared.rope.Node.TheVariants as node
 

@@ -1,11 +1,11 @@
 -- What a string's bytes are.
 use Rattle.std.specs.Prelude.{◌≡◌, ℕ, ◌<◌, Bool, true, ◌||◌, ◌==◌, nat_le, nat_lt, if◌then◌else◌, List, [], ◌∷◌, ◌++◌, length, drop, take_while, Option, Some, None, Result, Ok, Err}
 use Rattle.std.specs.List.{list_all}
-use Rattle.rt_items.specs.declared.item.ItemKind.{ItemKind}
-use Rattle.rt_items.specs.declared.item.ItemKind.TheVariants as kind
-use Rattle.rt_items.specs.declared.fault.TextFault.{TextFault}
-use Rattle.rt_items.specs.declared.fault.TextFault.TheVariants.{Memory, BadCharacter, OpenString, BadInsert}
-use Rattle.rt_items.specs.Bytes.{is_blank, is_capital, is_digit, is_printable, in_string, number_of}
+use Rattle.rt_pieces.specs.declared.item.ItemKind.{ItemKind}
+use Rattle.rt_pieces.specs.declared.item.ItemKind.TheVariants as kind
+use Rattle.rt_pieces.specs.declared.fault.TextFault.{TextFault}
+use Rattle.rt_pieces.specs.declared.fault.TextFault.TheVariants.{Memory, BadCharacter, OpenString, BadInsert}
+use Rattle.rt_pieces.specs.Bytes.{is_blank, is_capital, is_digit, is_printable, in_string, number_of}
 
 -- the text that each LET name in force stands for
 abbrev pub Lets : Type 0

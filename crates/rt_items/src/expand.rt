@@ -2,19 +2,17 @@
 
 ghost use Rattle.std.specs.Prelude.{◌≡◌, ◌++◌, [], length};
 ghost use Rattle.rt_items.specs.Lets as spec;
-ghost use Rattle.rt_items.specs.Cutting.{Clean};
+ghost use Rattle.rt_pieces.specs.Cutting.{Clean};
 ghost use Rattle.rt_items.specs.Reading as turns;
 ghost use Rattle.rt_items.specs.Reading.{Turns, end_of, state_of};
 ghost use Rattle.std.specs.Option.{option_map};
 ghost use Rattle.rt_items.specs.Ropes.{text_at};
 ghost use Rattle.rt_items.specs.Table.{lets_of, IsNamed, SameLets};
 
-use crate::fault::TextFault;
-use crate::item::{Item, ItemKind, Mark, Word};
-use crate::rope::Span;
 use crate::table::{
     LetTable, add_own, add_use, begin, open_len, put, text_len, text_of, write_text,
 };
+use rt_pieces::{Item, ItemKind, Mark, Span, TextFault, Word};
 use rt_words::{List, Name};
 use std::alloc::Global;
 

@@ -1,24 +1,16 @@
-//! From the bytes of a module's text to its items.
+//! From the bytes of a module's text to its items: the pieces of `rt_pieces` mean items, LETs are taken out,
+//! and their names are replaced.
 #![tactic(auto)]
 
-mod bytes;
-mod cut;
 mod expand;
-mod fault;
-mod item;
-mod mark;
 mod meaning;
-mod number;
 mod read;
 mod rope;
-mod step;
 mod table;
 mod texts;
-mod word;
 
-pub use fault::TextFault;
-pub use item::{Item, ItemKind, Mark, Word};
 pub use read::{items, one_reading};
+pub use rt_pieces::{Item, ItemKind, Mark, TextFault, Word};
 
 #[cfg(test)]
 mod tests;

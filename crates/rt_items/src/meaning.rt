@@ -2,21 +2,19 @@
 
 ghost use Rattle.std.specs.Prelude.{◌≡◌, ◌≤◌, ◌<◌, length, map, IfOk};
 ghost use Rattle.std.specs.List.{list_all};
-ghost use Rattle.rt_items.specs.Bytes as bytes_of;
+ghost use Rattle.rt_pieces.specs.Bytes as bytes_of;
 ghost use Rattle.rt_items.specs.Meaning as spec;
-ghost use Rattle.rt_items.specs.Pieces as pieces;
+ghost use Rattle.rt_pieces.specs.Pieces as pieces;
 ghost use Rattle.rt_items.specs.Texts as texts;
 ghost use Rattle.rt_items.specs.Reading.{Answers};
 ghost use Rattle.rt_items.specs.Table.{lets_of};
 
-use crate::bytes::{is_digit, is_letter, upper};
-use crate::fault::TextFault;
-use crate::item::{ItemKind, Word};
-use crate::mark::mark_of;
-use crate::number::{Base, is_digit_of, number, radix};
 use crate::table::LetTable;
 use crate::texts::string_of;
-use crate::word::word_of;
+use rt_pieces::{
+    Base, ItemKind, TextFault, Word, is_digit, is_digit_of, is_letter, mark_of, radix, upper,
+    value_of, word_of,
+};
 use rt_words::Name;
 use std::alloc::{AllocError, Global};
 
@@ -89,7 +87,7 @@ fn digits_meant(line: u32, base: u32, text: &[u8]) -> Result<ItemKind, TextFault
     if text.is_empty() || !all_digits_of(base, text) {
         return Err(TextFault::BadCharacter(line));
     }
-    number_meant(line, number(base, text))
+    number_meant(line, value_of(base, text))
 }
 
 fn character_meant(line: u32, text: &[u8]) -> Result<ItemKind, TextFault>
@@ -139,7 +137,7 @@ fn text_meant(
             if is_letter(*b) {
                 name_meant(alloc, line, text)
             } else if is_digit(*b) {
-                number_meant(line, number(10, text))
+                number_meant(line, value_of(10, text))
             } else if *b == 39 {
                 character_meant(line, rest)
             } else if *b == 34 {

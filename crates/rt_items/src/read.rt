@@ -6,12 +6,10 @@ ghost use Rattle.rt_items.specs.Reading.{Turns, state_of, turn_meant, reading_of
 ghost use Rattle.rt_items.specs.Meaning.{meaning_by};
 ghost use Rattle.rt_items.specs.Table.{lets_of};
 
-use crate::cut::{Cursor, Found, Seen, next_piece};
 use crate::expand::{State, finish, turn};
-use crate::fault::TextFault;
-use crate::item::Item;
 use crate::meaning::meaning;
 use crate::table::{LetTable, empty_table};
+use rt_pieces::{Found, Item, Rest, Seen, TextFault, next_piece};
 use rt_words::List;
 use std::alloc::Global;
 
@@ -38,21 +36,16 @@ fn read(alloc: Global, bytes: &[u8]) -> Result<List<Item>, TextFault>
     let mut table = empty_table(alloc);
     let mut out = List::new(alloc, 0)?;
     let mut state = State::Plain;
-    let mut cursor = Cursor {
-        opened: None,
-        line: 1,
-        rest: bytes,
-    };
+    let mut rest = Rest { line: 1, bytes };
     loop {
-        match next_piece(total, cursor) {
+        match next_piece(total, rest) {
             Seen::End => return finish(state, out),
             Seen::Fault(fault) => return Err(fault),
-            Seen::Gap(_) => unreachable!(),
             Seen::Piece(found, next) => match add_piece(alloc, state, &mut table, &mut out, found) {
                 Err(fault) => return Err(fault),
                 Ok(after) => {
                     state = after;
-                    cursor = next;
+                    rest = next;
                 }
             },
         }

@@ -4,18 +4,10 @@ ghost use Rattle.std.specs.Prelude.{◌≡◌, [], ◌∷◌, ◌++◌, ◌+◌,
 ghost use Rattle.rt_items.specs.Lets.{items_at};
 ghost use Rattle.rt_items.specs.Ropes.{Kinds, nth_text, text_at, node_text, grown, IsBuilt, AreBuilt, Keeps, IsRoot, one_number};
 
-use crate::item::{Item, ItemKind};
+use rt_pieces::{Item, ItemKind, Span};
 use rt_words::{List, Memory};
 use std::alloc::Global;
 use std::marker::Model;
-
-/// The line and the span of a piece.
-#[derive(Clone, Copy)]
-pub struct Span {
-    pub line: u32,
-    pub from: u32,
-    pub to: u32,
-}
 
 /// Two earlier texts, one behind the other, by their numbers, and how many items they have.
 #[derive(Clone, Copy)]

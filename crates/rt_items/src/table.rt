@@ -7,8 +7,8 @@ ghost use Rattle.rt_items.specs.Ropes.{text_at, Keeps, IsRoot};
 ghost use Rattle.rt_items.specs.Ropes as ropes;
 ghost use Rattle.rt_items.specs.Table.{lets_of, name_in, with_root, IsNamed, SameLets};
 
-use crate::item::{Item, ItemKind};
-use crate::rope::{Span, Texts};
+use crate::rope::Texts;
+use rt_pieces::{Item, ItemKind, Span};
 use rt_words::{List, Memory, Name};
 use std::alloc::Global;
 use std::collections::BTreeMap;

@@ -3,17 +3,14 @@
 ghost use Rattle.std.specs.Prelude.{◌≡◌, ◌+◌, ◌<◌, ◌≤◌, ◌^◌, not, ◌==◌, length, take_while, None};
 ghost use Rattle.std.specs.List.{list_all};
 ghost use Rattle.std.specs.Option.{option_map};
-ghost use Rattle.rt_items.specs.Bytes as bytes_of;
+ghost use Rattle.rt_pieces.specs.Bytes as bytes_of;
 ghost use Rattle.rt_items.specs.Texts as spec;
 ghost use Rattle.rt_items.specs.Texts.{Gives, with_bytes};
 ghost use Rattle.rt_items.specs.Reading.{Answers};
 ghost use Rattle.rt_items.specs.Table.{lets_of};
 
-use crate::bytes::{is_blank, is_capital, is_digit, is_printable};
-use crate::fault::TextFault;
-use crate::number::number;
-use crate::step::string_len;
 use crate::table::{LetTable, one_number, text_of};
+use rt_pieces::{TextFault, is_blank, is_capital, is_digit, is_printable, string_len, value_of};
 use rt_words::{Bytes, Text};
 use std::alloc::Global;
 
@@ -109,7 +106,7 @@ fn byte_of(table: &LetTable, run: &[u8]) -> Option<u8>
     ensures { result ≡ spec.byte_of (lets_of table.now) run.now }
 {
     if all_digits(run) {
-        return small(number(10, run));
+        return small(value_of(10, run));
     }
     byte_named(table, run)
 }

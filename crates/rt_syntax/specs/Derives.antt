@@ -1,6 +1,6 @@
 -- What a body is, which item of a list is unfit, and what the parser of a body may answer.
 use Rattle.std.specs.Prelude.{◌≡◌, ℕ, ◌+◌, ◌-◌, ◌<◌, ◌≤◌, List, length, drop, Option, Some, None, Result, Ok, Err, ◌⊎◌, slice_get}
-use Rattle.rt_items.specs.declared.item.Item.{Item}
+use Rattle.rt_pieces.specs.declared.item.Item.{Item}
 use Rattle.rt_expression.specs.declared.limits.Limits.{Limits}
 use Rattle.rt_expression.specs.declared.limits.Context.{Context}
 use Rattle.rt_syntax.specs.declared.tree.Body.{Body}

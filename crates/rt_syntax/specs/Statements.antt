@@ -1,7 +1,7 @@
 -- The grammar of statements and bodies, one part for each line.
 use Rattle.std.specs.Prelude.{ℕ, zero, suc, List, [], ◌∷◌, Option, Some, None}
-use Rattle.rt_items.specs.declared.item.Mark.TheVariants as m
-use Rattle.rt_items.specs.declared.item.Word.TheVariants as w
+use Rattle.rt_pieces.specs.declared.item.Mark.TheVariants as m
+use Rattle.rt_pieces.specs.declared.item.Word.TheVariants as w
 use Rattle.rt_grammar.specs.declared.at.Ident.{Ident}
 use Rattle.rt_grammar.specs.Parts.{Part, nothing, never, either, ◌>>=◌, optional, turns, within, here, mark, word, ident, label, push}
 use Rattle.rt_expression.specs.declared.limits.Context.{Context}

@@ -1,6 +1,6 @@
 -- What a statement begins with.
 use Rattle.std.specs.Prelude.{Bool, true, false}
-use Rattle.rt_items.specs.declared.item.Word.TheVariants as w
+use Rattle.rt_pieces.specs.declared.item.Word.TheVariants as w
 use Rattle.rt_grammar.specs.declared.next.Next.{Next}
 use Rattle.rt_grammar.specs.declared.next.Next.TheVariants as next
 

@@ -1,7 +1,7 @@
 //! A body from a place in a list of items.
 
 ghost use Rattle.std.specs.Prelude.{◌≡◌, ◌≤◌, ℕ, List, length, drop, IfOk, IfErr};
-ghost use Rattle.rt_items.specs.declared.item.Item.{Item};
+ghost use Rattle.rt_pieces.specs.declared.item.Item.{Item};
 ghost use Rattle.rt_syntax.specs.declared.tree.Body.{Body as Tree};
 ghost use Rattle.rt_grammar.specs.Parsing.{Gives};
 ghost use Rattle.rt_syntax.specs.StatementParser as reads;
@@ -12,7 +12,7 @@ use crate::statements::body;
 use crate::tree::Body;
 use rt_expression::{Context, LIMITS};
 use rt_grammar::{Stop, after_word, word_comes};
-use rt_items::{Item, Word};
+use rt_pieces::{Item, Word};
 use std::alloc::Global;
 
 /// The items after the word that ends a body.

@@ -15,7 +15,7 @@ use rt_grammar::{
     At, Ident, Next, Stop, after_mark, after_word, at_of, ident, label, label_comes, mark_comes,
     next_of, open_word, word_comes,
 };
-use rt_items::{Item, Mark, Word};
+use rt_pieces::{Item, Mark, Word};
 use rt_words::List;
 use std::alloc::Global;
 

@@ -4,7 +4,7 @@ ghost use Rattle.std.specs.Prelude.{◌≡◌};
 ghost use Rattle.rt_syntax.specs.Tables as tables;
 
 use rt_grammar::Next;
-use rt_items::Word;
+use rt_pieces::Word;
 
 /// Whether a statement without its labels begins so.
 #[tactic(auto, unfolding(crate::specs::Tables::begins_simple))]

@@ -1,6 +1,6 @@
 use Rattle.std.proofs.Common.{◌+◌}
 use Rattle.rt_items.specs.Table.{lets_of}
-use Rattle.rt_items.proofs.Fronts.{tail_is}
+use Rattle.rt_pieces.proofs.Fronts.{tail_is}
 use Rattle.rt_items.proofs.Strings.{insert_ends, insert_stops, insert_goes}
 use Rattle.rt_items.proofs.texts.one_insert.Goals as goal
 

@@ -1,5 +1,5 @@
 use Rattle.std.proofs.Common.{ℕ, ap, drop, ◌∙◌}
-use Rattle.rt_items.proofs.Fronts.{tail_is}
+use Rattle.rt_pieces.proofs.Fronts.{tail_is}
 use Rattle.rt_items.proofs.texts.past_blanks.Goals as goal
 
 pub returns : goal.returns

@@ -1,6 +1,6 @@
 use Rattle.std.proofs.Common.{◌+◌, ap, length, length-drop, arith}
 use Rattle.rt_items.specs.Table.{lets_of}
-use Rattle.rt_items.proofs.Fronts.{tail_is}
+use Rattle.rt_pieces.proofs.Fronts.{tail_is}
 use Rattle.rt_items.proofs.Strings.{values_end, values_stop, values_go}
 use Rattle.rt_items.proofs.texts.values.Goals as goal
 

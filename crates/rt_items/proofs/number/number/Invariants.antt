@@ -1,6 +1,0 @@
-use Rattle.std.proofs.Common.{◌≡◌, take, min}
-use Rattle.rt_items.specs.Bytes.{number_of}
-use Rattle.rt_items.proofs.number.number.Given as goal
-
-abbrev pub invariant-loop-b : goal.invariant-loop-b
-invariant-loop-b l = l.value ≡ min (number_of l.base (take l.b-index l.text)) 65536

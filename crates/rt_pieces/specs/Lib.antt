@@ -1,0 +1,5 @@
+pub mod Bytes
+pub mod Pieces
+pub mod Cutting
+pub mod Begins
+pub mod Steps
