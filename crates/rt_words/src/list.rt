@@ -102,14 +102,6 @@ impl<T: Drop> List<T> {
             Err(_) => Err(Memory),
         }
     }
-
-    /// Replaces the element at `at`, counted from 0, which is dropped; it takes no memory.
-    pub fn set(&mut self, at: usize, item: T)
-        requires { at < length self.old }
-        ensures { self.new ≡ slice_set self.old at item }
-    {
-        self.items[at] = item;
-    }
 }
 
 impl<T: Copy> List<T> {
