@@ -2,6 +2,7 @@
 use Rattle.std.specs.Prelude.{ℕ, ◌-◌, Bool, true, false, List, [], ◌∷◌, length, Option, Some, None}
 use Rattle.rt_items.specs.declared.item.Item.{Item}
 use Rattle.rt_items.specs.declared.item.Mark.TheVariants as m
+use Rattle.rt_items.specs.declared.item.Word.{Word}
 use Rattle.rt_items.specs.declared.item.Word.TheVariants as w
 use Rattle.rt_grammar.specs.declared.at.At.{At}
 use Rattle.rt_grammar.specs.declared.next.Next.{Next}
@@ -92,6 +93,12 @@ record_mode c = do
 
 unfoldable pub entry : Parser Bool
 entry = choose (is_word w.Ent) (do _ ← word w.Ent; pure true) (pure false)
+
+unfoldable pub own : Context → Parser (At × Bool)
+own c = do
+  at ← here c.total
+  ent ← entry
+  pure (at, ent)
 
 unfoldable pub mode : Context → Parser WrittenMode
 mode c = written_mode c c.limits.modes c.limits.parentheses
@@ -192,10 +199,15 @@ name_first c x at = do
   b ← closing c
   pure (d.Procedure (record { entry = x.1; name = n; fields = fs; result = r; body = b.0; opens = at; ends = b.1; at = x.0 }))
 
-unfoldable pub procedure_brick : Context → At × Bool → Parser Declaration
-procedure_brick c x = do
+unfoldable pub opens : Context → Parser At
+opens c = do
   at ← here c.total
   _ ← within c.limits.modes (word w.Proc)
+  pure at
+
+unfoldable pub procedure_brick : Context → At × Bool → Parser Declaration
+procedure_brick c x = do
+  at ← opens c
   choose begins_result (result_first c x at) (name_first c x at)
 
 abbrev pub own_by : Context → At × Bool → Next → Parser Declaration
@@ -205,11 +217,16 @@ own_by c x _ = procedure_brick c x
 
 unfoldable pub own_brick : Context → Parser Declaration
 own_brick c = do
-  at ← here c.total
-  ent ← entry
-  by_next (own_by c (at, ent))
+  x ← own c
+  by_next (own_by c x)
 
 -- ---- bricks of other modules
+
+unfoldable pub at_word : Context → Word → Parser At
+at_word c k = do
+  at ← here c.total
+  _ ← word k
+  pure at
 
 unfoldable pub imported_procedures : Context → Import → At → Parser Declaration
 imported_procedures c from at = do
@@ -256,14 +273,12 @@ external_by c at _ = imported_stacks c at
 
 unfoldable pub external_bricks : Context → Parser Declaration
 external_bricks c = do
-  at ← here c.total
-  _ ← word w.Ext
+  at ← at_word c w.Ext
   by_next (external_by c at)
 
 unfoldable pub service_bricks : Context → Parser Declaration
 service_bricks c = do
-  at ← here c.total
-  _ ← word w.Svc
+  at ← at_word c w.Svc
   choose (is_word w.Proc) (imported_procedures c import.Service at) (imported_data c import.Service at)
 
 -- ---- the lines

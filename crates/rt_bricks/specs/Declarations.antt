@@ -1,6 +1,7 @@
 -- The grammar of declarations, one part for each line.
 use Rattle.std.specs.Prelude.{ℕ, ◌-◌, Bool, true, false, List, [], ◌∷◌, Option, Some, None}
 use Rattle.rt_items.specs.declared.item.Mark.TheVariants as m
+use Rattle.rt_items.specs.declared.item.Word.{Word}
 use Rattle.rt_items.specs.declared.item.Word.TheVariants as w
 use Rattle.rt_grammar.specs.declared.at.At.{At}
 use Rattle.rt_grammar.specs.declared.at.Ident.{Ident}
@@ -185,18 +186,11 @@ name_first c x at = do
 
 -- ---- bricks of other modules
 
--- EXT, and where it stands
-abbrev pub external : Context → Part At
-external c = do
+-- a word, and where it stands
+abbrev pub at_word : Context → Word → Part At
+at_word c k = do
   at ← here c.total
-  _ ← word w.Ext
-  nothing at
-
--- SVC, and where it stands
-abbrev pub service : Context → Part At
-service c = do
-  at ← here c.total
-  _ ← word w.Svc
+  _ ← word k
   nothing at
 
 -- procmode name {, name} ;
@@ -246,15 +240,15 @@ own_brick c = either (do x ← own c; data_brick c x)
 
 -- EXT procmode .. | EXT DATA .. | EXT STACK ..
 abbrev pub external_bricks : Context → Part Declaration
-external_bricks c = either (do at ← external c; imported_procedures c import.External at)
-    (either (do at ← external c; imported_data c import.External at)
-    (do at ← external c; imported_stacks c at))
+external_bricks c = either (do at ← at_word c w.Ext; imported_procedures c import.External at)
+    (either (do at ← at_word c w.Ext; imported_data c import.External at)
+    (do at ← at_word c w.Ext; imported_stacks c at))
 
 -- SVC procmode .. | SVC DATA ..
 abbrev pub service_bricks : Context → Part Declaration
-service_bricks c = either (do at ← service c; imported_procedures c import.Service at)
-    (do at ← service c; imported_data c import.Service at)
+service_bricks c = either (do at ← at_word c w.Svc; imported_procedures c import.Service at)
+    (do at ← at_word c w.Svc; imported_data c import.Service at)
 
 -- decl
 abbrev pub declaration : Context → Part Declaration
-declaration c = either (record_mode c) (either (own_brick c) (either (external_bricks c) (service_bricks c)))
+declaration c = either (record_mode c) (either (external_bricks c) (either (service_bricks c) (own_brick c)))

@@ -18,13 +18,18 @@ to_semicolon = do
   _ ← skipped (listed_in but_semicolon)
   mark m.Semicolon
 
+-- number {, number}
+abbrev pub numbers : Part (Unit {0})
+numbers = do
+  _ ← number
+  skipped (do _ ← mark m.Comma; _ ← number; nothing tt)
+
 -- OPTION ( number {, number} ) {item but ;} ;
 abbrev pub option : Context → Part (Unit {0})
 option c = do
   _ ← word w.Option
   _ ← within c.limits.parentheses (mark m.Open)
-  _ ← number
-  _ ← skipped (do _ ← mark m.Comma; _ ← number; nothing tt)
+  _ ← numbers
   _ ← mark m.Close
   to_semicolon
 

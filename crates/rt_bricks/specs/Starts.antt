@@ -76,7 +76,7 @@ module _ (c : Context) (levels : ℕ) (inner : Part Start) where
     nothing (s.List all copies at)
 
   abbrev pub start_of : Part Start
-  start_of = either (numeral c levels) (either (string c) (either (place c levels) list))
+  start_of = either (place c levels) (either (string c) (either list (numeral c levels)))
 
 -- a start in which fewer than so many parentheses open
 unfoldable pub inside : Context → ℕ → Part Start

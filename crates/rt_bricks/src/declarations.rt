@@ -53,6 +53,16 @@ fn entry(items: &[Item]) -> Result<(bool, &[Item]), Stop>
     Ok((true, rest))
 }
 
+/// Where a brick of the module begins, and whether ENT stands there.
+#[tactic(auto, unfolding(crate::specs::DeclarationParser::own))]
+fn own(context: Context, items: &[Item]) -> Result<((At, bool), &[Item]), Stop>
+    ensures { Gives (λ x. (x.0, x.1.now)) result (reads.own context items.now) }
+{
+    let at = at_of(context.total, items);
+    let (entry, rest) = entry(items)?;
+    Ok(((at, entry), rest))
+}
+
 /// A mode.
 #[tactic(auto, unfolding(crate::specs::DeclarationParser::mode))]
 fn mode(
@@ -349,6 +359,16 @@ fn name_first<'a>(
     Ok((Declaration::Procedure(brick), rest))
 }
 
+/// The PROC of a procedure, which opens one mode.
+#[tactic(auto, unfolding(crate::specs::DeclarationParser::opens))]
+fn opens(context: Context, items: &[Item]) -> Result<(At, &[Item]), Stop>
+    ensures { Gives (λ x. (x.0, x.1.now)) result (reads.opens context items.now) }
+{
+    let at = at_of(context.total, items);
+    let rest = open_word(context.limits.modes, Word::Proc, items)?;
+    Ok((at, rest))
+}
+
 /// PROC to ENDPROC.
 #[tactic(auto, unfolding(crate::specs::DeclarationParser::procedure_brick))]
 fn procedure_brick<'a>(
@@ -359,8 +379,7 @@ fn procedure_brick<'a>(
 ) -> Result<(Declaration, &'a [Item]), Stop>
     ensures { Gives (λ x. (x.0, x.1.now)) result (reads.procedure_brick context own items.now) }
 {
-    let opens = at_of(context.total, items);
-    let rest = open_word(context.limits.modes, Word::Proc, items)?;
+    let (opens, rest) = opens(context, items)?;
     if begins_result(next_of(rest)) {
         return result_first(alloc, context, own, opens, rest);
     }
@@ -376,13 +395,22 @@ fn own_brick(
 ) -> Result<(Declaration, &[Item]), Stop>
     ensures { Gives (λ x. (x.0, x.1.now)) result (reads.own_brick context items.now) }
 {
-    let at = at_of(context.total, items);
-    let (entry, rest) = entry(items)?;
+    let (own, rest) = own(context, items)?;
     match next_of(rest) {
-        Next::Word(Word::Data) => data_brick(alloc, context, (at, entry), rest),
-        Next::Word(Word::Stack) => stack_brick(alloc, context, (at, entry), rest),
-        _ => procedure_brick(alloc, context, (at, entry), rest),
+        Next::Word(Word::Data) => data_brick(alloc, context, own, rest),
+        Next::Word(Word::Stack) => stack_brick(alloc, context, own, rest),
+        _ => procedure_brick(alloc, context, own, rest),
     }
+}
+
+/// A word, and where it stands.
+#[tactic(auto, unfolding(crate::specs::DeclarationParser::at_word))]
+fn at_word(context: Context, word: Word, items: &[Item]) -> Result<(At, &[Item]), Stop>
+    ensures { Gives (λ x. (x.0, x.1.now)) result (reads.at_word context word items.now) }
+{
+    let at = at_of(context.total, items);
+    let rest = after_word(word, items)?;
+    Ok((at, rest))
 }
 
 /// A procedure's mode and names, behind EXT or SVC.
@@ -501,8 +529,7 @@ fn external_bricks(
 ) -> Result<(Declaration, &[Item]), Stop>
     ensures { Gives (λ x. (x.0, x.1.now)) result (reads.external_bricks context items.now) }
 {
-    let at = at_of(context.total, items);
-    let rest = after_word(Word::Ext, items)?;
+    let (at, rest) = at_word(context, Word::Ext, items)?;
     match next_of(rest) {
         Next::Word(Word::Proc) => imported_procedures(alloc, context, Import::External, at, rest),
         Next::Word(Word::Data) => imported_data(alloc, context, Import::External, at, rest),
@@ -519,8 +546,7 @@ fn service_bricks(
 ) -> Result<(Declaration, &[Item]), Stop>
     ensures { Gives (λ x. (x.0, x.1.now)) result (reads.service_bricks context items.now) }
 {
-    let at = at_of(context.total, items);
-    let rest = after_word(Word::Svc, items)?;
+    let (at, rest) = at_word(context, Word::Svc, items)?;
     if word_comes(Word::Proc, rest) {
         return imported_procedures(alloc, context, Import::Service, at, rest);
     }

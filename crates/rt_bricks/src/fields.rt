@@ -48,14 +48,15 @@ fn with_field(alloc: Global, so_far: Collected, field: Field) -> Result<Collecte
         mut before,
         mut last,
     } = so_far;
-    match field.mode {
+    let Field { mode, name, at } = field;
+    match mode {
         None => {
-            last.names.push(field.name)?;
+            last.names.push(name)?;
             Ok(Collected { before, last })
         }
         Some(mode) => {
             before.push(last)?;
-            let last = fields_of(alloc, mode, field.name, field.at)?;
+            let last = fields_of(alloc, mode, name, at)?;
             Ok(Collected { before, last })
         }
     }
