@@ -1,5 +1,5 @@
 -- What the parser of a module answers: the one module, or the unfit item.
-use Rattle.std.proofs.Common.{◌≡◌, ◌≤◌, ℕ, List, [], ◌∷◌, length, Result, Ok, Err, sym, ap, ◌∙◌, arith}
+use Rattle.std.proofs.Common.{◌≡◌, ◌<◌, ◌≤◌, ℕ, List, [], ◌∷◌, length, Result, Ok, Err, sym, ap, ◌∙◌, arith}
 use Rattle.rt_items.specs.declared.item.Item.{Item}
 use Rattle.rt_grammar.specs.Parsing.{left}
 use Rattle.rt_grammar.proofs.Good.{ok_is}
@@ -14,9 +14,10 @@ use Rattle.rt_bricks.proofs.ModuleLines.{good_module}
 abbrev pub parsed : List Item → Result (Module × List Item) ℕ
 parsed items = reads.module_of (in_list items language_limits) items
 
-pub parsed_derives : (items : List Item) (it : Module) → parsed items ≡ Ok (it, []) → Derives items it
+pub parsed_derives : (items : List Item) (it : Module) (r : List Item) → length r < 1 → parsed items ≡ Ok (it, r) → Derives items it
 unfolding Derives
-parsed_derives items it e = (good_module (in_list items language_limits)).sound items [] it e
+parsed_derives items it [] none e = (good_module (in_list items language_limits)).sound items [] it e
+parsed_derives items it (i ∷ r) none e = absurd (omega arith)
 
 pub derives_parsed : (items : List Item) (it : Module) → Derives items it → parsed items ≡ Ok (it, [])
 unfolding Derives
@@ -26,9 +27,10 @@ derives_parsed items it d = (good_module (in_list items language_limits)).comple
 pub one_module : (items : List Item) (a b : Module) → Derives items a → Derives items b → a ≡ b
 one_module items a b d e = ap (λ (t : Module × List Item). t.0) (ok_is (a, []) (b, []) (sym (derives_parsed items a d) ∙ derives_parsed items b e))
 
-pub not_with_rest : (items : List Item) (it other : Module) (i : Item) (r : List Item) → parsed items ≡ Ok (it, i ∷ r) → Derives items other → ⊥
-not_with_rest items it other i r e d =
-    let same : [] ≡ i ∷ r = ap (λ (t : Module × List Item). t.1) (ok_is (other, []) (it, i ∷ r) (sym (derives_parsed items other d) ∙ e)) in cc
+pub not_with_rest : (items : List Item) (it other : Module) (r : List Item) → 1 ≤ length r → parsed items ≡ Ok (it, r) → Derives items other → ⊥
+not_with_rest items it other r some e d =
+    let same : ◌≡◌ {A = Module × List Item} (other, []) (it, r) = ok_is (other, []) (it, r) (sym (derives_parsed items other d) ∙ e) in
+    let none : 0 ≡ length r = ap (λ (t : Module × List Item). length t.1) same in omega arith
 
 pub not_derived : (items : List Item) (n : ℕ) (it : Module) → parsed items ≡ Err n → Derives items it → ⊥
 not_derived items n it e d = let f = derives_parsed items it d in cc
