@@ -108,7 +108,7 @@ link_same (next.Mark m.Plus) = refl
 link_same (next.Word w.Abs) = refl
 link_same _ = refl
 
-link_goes : (n : Next) → Goes is_link (In 10 11) n
+pub link_goes : (n : Next) → Goes is_link (In 10 11) n
 link_goes = range_goes is_link 10 11 link_same
 
 expression_same : (n : Next) → begins_expression n ≡ in_range 11 23 (next_no n)

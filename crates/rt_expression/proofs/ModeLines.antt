@@ -142,7 +142,7 @@ module _ (c : Context) (modes parentheses : ℕ) (p : ℕ → ℕ → Parser Wri
   unfolding reads.any_result
   good_result = weaken FirstResult After (Unit {0}) (good_optional begins_result good_result_inside result_goes) (λ n h. h) (λ n h. (h, h)) (λ h. h)
 
-  good_procedure : Good (reads.procedure c modes parentheses p) (line.procedure c modes parentheses P) (λ n. n ≡ 61) After ⊥
+  pub good_procedure : Good (reads.procedure c modes parentheses p) (line.procedure c modes parentheses P) (λ n. n ≡ 61) After ⊥
   unfolding reads.procedure
   good_procedure = weaken (λ n. n ≡ 61) After ⊥
       (seq (good_here c.total) (λ at. seq (good_within modes (good_word w.Proc)) (λ _. seq (good_within parentheses (good_mark m.Open)) (λ _. seq good_parameters (λ ps. seq (good_mark m.Close) (λ _.
@@ -193,18 +193,25 @@ module _ (c : Context) (modes parentheses : ℕ) (p : ℕ → ℕ → Parser Wri
     mode_by_tests (next.Mark m.Dot) l = refl
     mode_by_tests _ l = refl
 
-    pub good_mode_of : Good (reads.mode_of c modes parentheses p references) (line.mode_of c modes parentheses P references) First After ⊥
-    unfolding reads.mode_of
-    good_mode_of = weaken First After ⊥
-        (good_equal (λ l. mode_by_tests (next_of l) l)
-        (good_choose is_name (good_named c)
+    -- what begins with a reserved word
+    abbrev pub by_word : Part WrittenMode
+    by_word = part.either (line.array c modes parentheses P) (part.either (line.reference c modes parentheses P references) (part.either (line.procedure c modes parentheses P) (line.basic c)))
+
+    pub good_by_word : Good (parse.choose (is_word w.Array) (reads.array c modes parentheses p) (parse.choose (is_word w.Ref) (reads.reference c modes parentheses p references)
+        (parse.choose (is_word w.Proc) (reads.procedure c modes parentheses p) (reads.basic c)))) by_word FirstByWord After ⊥
+    good_by_word = weaken FirstByWord After ⊥
         (good_choose (is_word w.Array) good_array
         (good_choose (is_word w.Ref) good_reference
         (good_choose (is_word w.Proc) good_procedure (good_basic c) (word_goes w.Proc) (λ n h k. grind arith))
         (word_goes w.Ref) (λ n h k. grind arith))
         (word_goes w.Array) (λ n h k. grind arith))
-        name_goes (λ n h k. grind arith)))
-        (λ n h. grind arith) (λ n h. (tt, (h, (h, (h, tt, λ e. absurd e), λ e. absurd e), λ e. absurd e), λ e. absurd e)) (λ h. h)
+        (λ n h. grind arith) (λ n h. (h, (h, (h, tt, λ e. absurd e), λ e. absurd e), λ e. absurd e)) (λ h. h)
+
+    pub good_mode_of : Good (reads.mode_of c modes parentheses p references) (line.mode_of c modes parentheses P references) First After ⊥
+    unfolding reads.mode_of
+    good_mode_of = weaken First After ⊥
+        (good_equal (λ l. mode_by_tests (next_of l) l) (good_choose is_name (good_named c) good_by_word name_goes (λ n h k. grind arith)))
+        (λ n h. grind arith) (λ n h. (tt, h, λ e. absurd e)) (λ h. h)
 
 pub good_inside : (c : Context) (modes parentheses references : ℕ) → Good (reads.inside c modes parentheses references) (line.inside c modes parentheses references) First After ⊥
 unfolding reads.inside line.inside

@@ -15,6 +15,6 @@ mod tree;
 pub use conditions::condition;
 pub use expressions::{expression, place};
 pub use limits::{Context, LIMITS, Limits};
-pub use modes::{mode_by_word, written_mode};
-pub use table::{begins_expression, begins_mode, begins_mode_by_word, begins_result};
+pub use modes::{mode_by_word, procedure, written_mode};
+pub use table::{begins_expression, begins_mode, begins_mode_by_word, begins_result, is_link};
 pub use tree::{BasicMode, Chain, Cond, Expr, Link, Op1, Op2, Rel, WrittenMode};

@@ -205,7 +205,7 @@ fn array_reference<'a>(
 /// PROC, the parameters in parentheses, and the result, if there is one.
 #[cycle(mode)]
 #[tactic(auto, unfolding(crate::specs::ModeParser::procedure))]
-fn procedure(
+pub fn procedure(
     alloc: Global,
     context: Context,
     modes: usize,

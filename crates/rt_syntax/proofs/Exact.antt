@@ -1,12 +1,14 @@
--- What the parser of a body answers: the one body and its place, or the unfit item.
+-- What a parser answers that is right: the one body and its place, or the unfit item.
 use Rattle.std.proofs.Common.{◌≡◌, ℕ, zero, suc, ◌+◌, ◌-◌, ◌<◌, ◌≤◌, List, [], ◌∷◌, length, drop, get_or, Result, Ok, Err, inl, inr, refl, sym, ap, subst, ◌∙◌, arith, length-drop}
 use Rattle.std.proofs.Math.Seq.{drop-nil}
 use Rattle.std.proofs.lemmas.List.{get_or-drop}
 use Rattle.std.proofs.lemmas.Option.{slice_get_cases, slice_get_past, slice_get_read}
 use Rattle.rt_pieces.specs.declared.item.Item.{Item}
-use Rattle.rt_grammar.specs.Parsing.{left}
+use Rattle.rt_grammar.specs.Parts.{Part}
+use Rattle.rt_grammar.specs.Parsing.{Parser, left}
 use Rattle.rt_grammar.proofs.Tails.{Tail, all, past, Tail-length}
-use Rattle.rt_grammar.proofs.Good.{ok_is}
+use Rattle.rt_grammar.proofs.Good.{Good, ok_is}
+use Rattle.rt_expression.specs.declared.limits.Context.{Context}
 use Rattle.rt_syntax.specs.declared.tree.Body.{Body}
 use Rattle.rt_syntax.specs.Statements as line
 use Rattle.rt_syntax.specs.StatementParser as reads
@@ -75,58 +77,66 @@ one_body items at b c p q d e =
     let places : p ≡ q = omega arith in
     rw (trees, places) refl
 
--- ---- the unfit item
+-- ---- the unfit item, for a part whose parser is right
 
-most_left : (items : List Item) (at : ℕ) → at ≤ length items → left (parsed items at) + at ≤ length items
-most_left items at le =
-    let g = good_closed (in_list items language_limits) in
-    let far = g.passes (drop at items) (drop at items) (g.nil (drop at items)) in
-    omega (arith, length-drop at items)
+module _ {A : Type 0} (p : Context → Parser A) (P : Context → Part A) (f s : ℕ → Type 0) (e : Type 0) (g : (c : Context) → Good (p c) (P c) f s e) where
+  -- how many items are left where the parser stops that starts at at
+  abbrev pub left_from : List Item → ℕ → ℕ
+  left_from items at = left (p (in_list items language_limits) (drop at items))
 
-viable_to : (items : List Item) (at k : ℕ) → at ≤ k → k + left (parsed items at) ≤ length items → BeginsWithin language_limits items at k
-unfolding BeginsWithin
-viable_to items at k le far = (good_closed (in_list items language_limits)).viable (drop at items) (drop k items) (tail_from items at k le) (omega (arith, length-drop k items))
+  most_left : (items : List Item) (at : ℕ) → at ≤ length items → left_from items at + at ≤ length items
+  most_left items at le =
+      let h = g (in_list items language_limits) in
+      let far = h.passes (drop at items) (drop at items) (h.nil (drop at items)) in
+      omega (arith, length-drop at items)
 
-viable_only : (items : List Item) (at k : ℕ) → k ≤ length items → BeginsWithin language_limits items at k → k + left (parsed items at) ≤ length items
-unfolding BeginsWithin
-viable_only items at k le v = let far = (good_closed (in_list items language_limits)).passes (drop at items) (drop k items) v in omega (arith, length-drop k items)
+  viable_to : (items : List Item) (at k : ℕ) → at ≤ k → k + left_from items at ≤ length items → BeginsWithin P language_limits items at k
+  unfolding BeginsWithin
+  viable_to items at k le far = (g (in_list items language_limits)).viable (drop at items) (drop k items) (tail_from items at k le) (omega (arith, length-drop k items))
 
-unfit_at : (items : List Item) (at n : ℕ) → at ≤ length items → parsed items at ≡ Err n → 0 < n → IsUnfit items at (length items - n)
-unfolding PassesLimit
-unfit_at items at n le e some =
-    let is : left (parsed items at) ≡ n = ap left e in
-    let most = most_left items at le in
-    record {
-      from = omega arith;
-      there = omega arith;
-      before = λ k low high. viable_to items at k low (omega arith);
-      with_it = λ v. (v, λ w. let far = viable_only items at (length items - n + 1) (omega arith) w in omega arith);
-    }
+  viable_only : (items : List Item) (at k : ℕ) → k ≤ length items → BeginsWithin P language_limits items at k → k + left_from items at ≤ length items
+  unfolding BeginsWithin
+  viable_only items at k le v = let far = (g (in_list items language_limits)).passes (drop at items) (drop k items) v in omega (arith, length-drop k items)
 
-all_viable : (items : List Item) (at : ℕ) → parsed items at ≡ Err 0 → (k : ℕ) → at ≤ k → k ≤ length items → BeginsWithin language_limits items at k
-all_viable items at e k low high = let is : left (parsed items at) ≡ 0 = ap left e in viable_to items at k low (omega arith)
+  unfit_at : (items : List Item) (at n : ℕ) → at ≤ length items → left_from items at ≡ n → 0 < n → IsUnfit P items at (length items - n)
+  unfolding PassesLimit
+  unfit_at items at n le is some =
+      let most = most_left items at le in
+      record {
+        from = omega arith;
+        there = omega arith;
+        before = λ k low high. viable_to items at k low (omega arith);
+        with_it = λ v. (v, λ w. let far = viable_only items at (length items - n + 1) (omega arith) w in omega arith);
+      }
+
+  pub few_left : (items : List Item) (at n : ℕ) → at ≤ length items → left_from items at ≡ n → n ≤ length (drop at items)
+  few_left items at n le is =
+      let most = most_left items at le in
+      let many : length (drop at items) ≡ length items - at = length-drop at items in omega arith
+
+  pub refused_by : (items : List Item) (at n : ℕ) → at ≤ length items → left_from items at ≡ n → IsRefusedAt P items at (line_left (drop at items) n)
+  refused_by items at zero le is = inr (λ k low high. viable_to items at k low (omega arith), rw (slice_get_past (drop at items) (length (drop at items) - 0) (omega arith)) refl)
+  refused_by items at (suc n) le is =
+      let u = unfit_at items at (suc n) le is (omega arith) in
+      let some = few_left items at (suc n) le is in
+      let many : length (drop at items) ≡ length items - at = length-drop at items in
+      let there : at + (length (drop at items) - suc n) ≡ length items - suc n = omega arith in
+      elim (slice_get_cases (drop at items) (length (drop at items) - suc n)).1 [
+        | inl found ↦
+            let read : found.0 ≡ get_or items (length items - suc n) found.0 =
+            sym found.3 ∙ get_or-drop at items (length (drop at items) - suc n) found.0 ∙ ap (λ (k : ℕ). get_or items k found.0) there in
+            let is = slice_get_read items (length items) (length items - suc n) found.0 refl (omega arith) read in
+            inl (length items - suc n, found.0, u, is, rw (found.2) refl)
+        | inr none ↦ absurd (let far = none.0 in omega arith)
+      ]
+
+-- ---- of a body
 
 pub not_derived : (items : List Item) (at n : ℕ) (b : Body) (place : ℕ) → parsed items at ≡ Err n → Derives items at b place → ⊥
 not_derived items at n b place e d = let f = (derives_parsed items at b place d).1 in cc
 
 pub refused_left : (items : List Item) (at n : ℕ) → at ≤ length items → parsed items at ≡ Err n → n ≤ length (drop at items)
-refused_left items at n le e =
-    let is : left (parsed items at) ≡ n = ap left e in
-    let most = most_left items at le in
-    let many : length (drop at items) ≡ length items - at = length-drop at items in omega arith
+refused_left items at n le e = few_left reads.closed line.closed _ _ _ good_closed items at n le (ap left e)
 
-pub refused_at : (items : List Item) (at n : ℕ) → at ≤ length items → parsed items at ≡ Err n → IsRefusedAt items at (line_left (drop at items) n)
-refused_at items at zero le e = inr (all_viable items at e, rw (slice_get_past (drop at items) (length (drop at items) - 0) (omega arith)) refl)
-refused_at items at (suc n) le e =
-    let u = unfit_at items at (suc n) le e (omega arith) in
-    let some = refused_left items at (suc n) le e in
-    let many : length (drop at items) ≡ length items - at = length-drop at items in
-    let there : at + (length (drop at items) - suc n) ≡ length items - suc n = omega arith in
-    elim (slice_get_cases (drop at items) (length (drop at items) - suc n)).1 [
-      | inl found ↦
-          let read : found.0 ≡ get_or items (length items - suc n) found.0 =
-          sym found.3 ∙ get_or-drop at items (length (drop at items) - suc n) found.0 ∙ ap (λ (k : ℕ). get_or items k found.0) there in
-          let is = slice_get_read items (length items) (length items - suc n) found.0 refl (omega arith) read in
-          inl (length items - suc n, found.0, u, is, rw (found.2) refl)
-      | inr none ↦ absurd (let far = none.0 in omega arith)
-    ]
+pub refused_at : (items : List Item) (at n : ℕ) → at ≤ length items → parsed items at ≡ Err n → IsRefusedAt line.closed items at (line_left (drop at items) n)
+refused_at items at n le e = refused_by reads.closed line.closed _ _ _ good_closed items at n le (ap left e)

@@ -5,6 +5,7 @@ ghost use Rattle.rt_pieces.specs.declared.item.Item.{Item};
 ghost use Rattle.rt_syntax.specs.declared.tree.Body.{Body as Tree};
 ghost use Rattle.rt_grammar.specs.Parsing.{Gives};
 ghost use Rattle.rt_syntax.specs.StatementParser as reads;
+ghost use Rattle.rt_syntax.specs.Statements as line;
 ghost use Rattle.rt_syntax.specs.Derives.{Derives, IsOrMemory, Refuses, line_left};
 
 use crate::fault::SyntaxFault;
@@ -69,7 +70,7 @@ pub fn parse_body(alloc: Global, items: &[Item], at: usize) -> Result<(Body, usi
     // What is derived is answered, unless memory runs out.
     ensures only { (b : Tree) (place : ℕ) → Derives items.now at b place → IsOrMemory (b, place) result }
     // A fault has the line of the first item that is unfit; where none is, of the last item, or 1.
-    ensures refused { IfErr result (Refuses items.now at) }
+    ensures refused { IfErr result (Refuses line.closed items.now at) }
 {
     let context = Context {
         total: items.len(),

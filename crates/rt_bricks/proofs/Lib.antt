@@ -1,0 +1,5 @@
+pub mod StartLines
+pub mod Factors
+pub mod DeclarationLines
+pub mod ModuleLines
+pub mod Exact

@@ -1,0 +1,11 @@
+use Rattle.std.proofs.Common.{rules, arith}
+use Rattle.std.proofs.lemmas.Grind.{common_steps}
+use Rattle.rt_bricks.specs.DeclarationParser as reads
+use Rattle.rt_grammar.proofs.Turning.{one_more}
+use Rattle.rt_bricks.proofs.fields.more_fields.Goals as goal
+
+pub loop-turn-preserved : goal.loop-turn-preserved
+unfolding reads.more_fields
+loop-turn-preserved c =
+    let e = one_more (λ n. reads.more_fields c.args.context c.args.modes c.args.parentheses n c.loop-turn.so_far c.loop-turn.rest.now) _ c.loop-turn._turn c.loop-turn-test.true c.loop-turn.invariant in
+    first_of (search rules, grind (arith, common_steps))

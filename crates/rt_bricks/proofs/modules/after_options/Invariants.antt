@@ -1,0 +1,6 @@
+use Rattle.std.proofs.Common.{◌≡◌, ◌-◌}
+use Rattle.rt_bricks.specs.ModuleParser as reads
+use Rattle.rt_bricks.proofs.modules.after_options.Given as goal
+
+abbrev pub invariant-loop-turn : goal.invariant-loop-turn
+invariant-loop-turn l = reads.options l.context l.fn.items ≡ reads.more_options l.context (l._turn-end - l._turn) l.rest
