@@ -65,11 +65,7 @@ fn own(context: Context, items: &[Item]) -> Result<((At, bool), &[Item]), Stop>
 
 /// A mode.
 #[tactic(auto, unfolding(crate::specs::DeclarationParser::mode))]
-fn mode(
-    alloc: Global,
-    context: Context,
-    items: &[Item],
-) -> Result<(WrittenMode, &[Item]), Stop>
+fn mode(alloc: Global, context: Context, items: &[Item]) -> Result<(WrittenMode, &[Item]), Stop>
     ensures { Gives (λ x. (x.0, x.1.now)) result (reads.mode context items.now) }
 {
     let limits = context.limits;
@@ -286,11 +282,7 @@ fn any_answer(
 
 /// The body of a procedure, and where its ENDPROC stands.
 #[tactic(auto, unfolding(crate::specs::DeclarationParser::closing))]
-fn closing(
-    alloc: Global,
-    context: Context,
-    items: &[Item],
-) -> Result<((Body, At), &[Item]), Stop>
+fn closing(alloc: Global, context: Context, items: &[Item]) -> Result<((Body, At), &[Item]), Stop>
     ensures { Gives (λ x. (x.0, x.1.now)) result (reads.closing context items.now) }
 {
     let rest = after_mark(Mark::Semicolon, items)?;
@@ -439,11 +431,7 @@ fn imported_procedures<'a>(
 
 /// A line of a data brick of another module.
 #[tactic(auto, unfolding(crate::specs::DeclarationParser::imported_line))]
-fn imported_line(
-    alloc: Global,
-    context: Context,
-    items: &[Item],
-) -> Result<(Fields, &[Item]), Stop>
+fn imported_line(alloc: Global, context: Context, items: &[Item]) -> Result<(Fields, &[Item]), Stop>
     ensures { Gives (λ x. (x.0, x.1.now)) result (reads.imported_line context items.now) }
 {
     let at = at_of(context.total, items);

@@ -7,9 +7,7 @@ ghost use Rattle.rt_bricks.specs.DeclarationParser as reads;
 
 use crate::tree::Fields;
 use rt_expression::{begins_mode_by_word, written_mode};
-use rt_grammar::{
-    At, Ident, Stop, after_mark, at_of, ident, mark_comes, name_comes, next_of,
-};
+use rt_grammar::{At, Ident, Stop, after_mark, at_of, ident, mark_comes, name_comes, next_of};
 use rt_items::{Item, Mark};
 use rt_syntax::{Context, WrittenMode};
 use rt_words::{List, Memory};

@@ -107,11 +107,7 @@ fn declarations(
 
 /// A module, and the items that follow its last declaration.
 #[tactic(auto, unfolding(crate::specs::ModuleParser::module_of))]
-pub fn module_of(
-    alloc: Global,
-    context: Context,
-    items: &[Item],
-) -> Result<(Module, &[Item]), Stop>
+pub fn module_of(alloc: Global, context: Context, items: &[Item]) -> Result<(Module, &[Item]), Stop>
     ensures { Gives (λ x. (x.0, x.1.now)) result (reads.module_of context items.now) }
 {
     let at = at_of(context.total, items);
