@@ -1,6 +1,7 @@
 use super::shown::shown;
 use super::*;
-use rt_items::{Item, items};
+use rt_items::items;
+use rt_pieces::Item;
 use std::alloc::Global;
 use std::test::Fail;
 
