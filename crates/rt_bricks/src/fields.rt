@@ -8,11 +8,7 @@ ghost use Rattle.rt_bricks.specs.DeclarationParser as reads;
 use crate::tree::Fields;
 use rt_expression::{begins_mode_by_word, written_mode};
 use rt_grammar::{At, Ident, Stop, after_mark, at_of, ident, mark_comes, name_comes, next_of};
-<<<<<<< HEAD
 use rt_pieces::{Item, Mark};
-=======
-use rt_items::{Item, Mark};
->>>>>>> 63e24b3420b8cdeed63256be8453bc9c839b633c
 use rt_syntax::{Context, WrittenMode};
 use rt_words::{List, Memory};
 use std::alloc::Global;

@@ -1,6 +1,7 @@
 use super::*;
 use rt_grammar::Ident;
-use rt_items::{Item, items};
+use rt_items::items;
+use rt_pieces::Item;
 use rt_syntax::{WrittenMode, parse_body};
 use rt_words::List;
 use std::alloc::Global;
