@@ -1,5 +1,6 @@
 // The instructions.
 ghost use Rattle.std.specs.Prelude.{◌≡◌, ◌+◌, ◌-◌, ◌*◌, ◌%◌, ◌<◌, ◌^◌, OnErr, ◌&&◌, nat_le, bit_or, false, if◌then◌else◌};
+ghost use Rattle.pdp_core.specs.Accesses.{store_made, update_made, double_made, single_end_made, single_read_made, single_made, word_made, register_made, push_made, pop_made, perform_made, execute_made};
 ghost use Rattle.pdp_core.specs.Execute.{failure, limit, move as move_of, double, sum, single, single_read, single_end, on_word as on_word_of, on_register, is_odd_pair, left, holds, branch, loop, target, call, return_by, double_step, sum_step, single_step, word_step, register_step, jump_step, call_step, perform as perform_of, plan, ended, execute};
 
 use crate::cpu::{Failure, Kind, Place, Regs, Stop};
@@ -28,6 +29,7 @@ fn move_to<B: Bus>(
     requires { x < limit size }
     ensures value { move_of (B.world bus.old) regs.old size x d ≡ left result regs.new (B.world bus.new) }
     ensures err { OnErr result (B.world bus.new ≡ B.world bus.old) }
+    ensures made { B.accesses bus.new ≡ store_made size d (B.accesses bus.old) }
 {
     match size {
         Size::Word => store_word(bus, regs, d, x),
@@ -52,6 +54,7 @@ fn two<B: Bus>(
     requires { x < limit size }
     ensures value { double (B.world bus.old) regs.old op size x d ≡ left result regs.new (B.world bus.new) }
     ensures err { OnErr result (B.world bus.new ≡ B.world bus.old) }
+    ensures made { B.accesses bus.new ≡ double_made (B.world bus.old) regs.old op size d (B.accesses bus.old) }
 {
     let c = regs.c;
     match op {
@@ -100,6 +103,7 @@ fn join(size: Size, y: u16, x: u16) -> u16
 fn total<B: Bus>(bus: &mut B, regs: &mut Regs, op: SumOp, x: u16, d: Place) -> Result<(), Failure>
     ensures value { sum (B.world bus.old) regs.old op x d ≡ left result regs.new (B.world bus.new) }
     ensures err { OnErr result (B.world bus.new ≡ B.world bus.old) }
+    ensures made { B.accesses bus.new ≡ update_made (B.world bus.old) Size.Word regs.old d (B.accesses bus.old) }
 {
     let y = load_at(bus, Size::Word, regs, d)?;
     match op {
@@ -125,6 +129,7 @@ fn finish_one<B: Bus>(
     requires { x < limit size }
     ensures value { single_end (B.world bus.old) regs.old op size x d ≡ left result regs.new (B.world bus.new) }
     ensures err { OnErr result (B.world bus.new ≡ B.world bus.old) }
+    ensures made { B.accesses bus.new ≡ single_end_made op size d (B.accesses bus.old) }
 {
     match op {
         SingleOp::Tst => Ok(()),
@@ -141,6 +146,7 @@ fn read_one<B: Bus>(
 ) -> Result<(), Failure>
     ensures value { single_read (B.world bus.old) regs.old op size d ≡ left result regs.new (B.world bus.new) }
     ensures err { OnErr result (B.world bus.new ≡ B.world bus.old) }
+    ensures made { B.accesses bus.new ≡ single_read_made (B.world bus.old) regs.old op size d (B.accesses bus.old) }
 {
     let y = load_at(bus, size, regs, d)?;
     let x = change(regs, op, size, y);
@@ -150,6 +156,7 @@ fn read_one<B: Bus>(
 fn clear<B: Bus>(bus: &mut B, regs: &mut Regs, size: Size, d: Place) -> Result<(), Failure>
     ensures value { single (B.world bus.old) regs.old SingleOp.Clr size d ≡ left result regs.new (B.world bus.new) }
     ensures err { OnErr result (B.world bus.new ≡ B.world bus.old) }
+    ensures made { B.accesses bus.new ≡ store_made size d (B.accesses bus.old) }
 {
     let _least = limit_of(size);
     set_flags(regs, false, true, false, false);
@@ -165,6 +172,7 @@ fn one<B: Bus>(
 ) -> Result<(), Failure>
     ensures value { single (B.world bus.old) regs.old op size d ≡ left result regs.new (B.world bus.new) }
     ensures err { OnErr result (B.world bus.new ≡ B.world bus.old) }
+    ensures made { B.accesses bus.new ≡ single_made (B.world bus.old) regs.old op size d (B.accesses bus.old) }
 {
     match op {
         SingleOp::Clr => clear(bus, regs, size, d),
@@ -175,6 +183,7 @@ fn one<B: Bus>(
 fn on_word<B: Bus>(bus: &mut B, regs: &mut Regs, op: WordOp, d: Place) -> Result<(), Failure>
     ensures value { on_word_of (B.world bus.old) regs.old op d ≡ left result regs.new (B.world bus.new) }
     ensures err { OnErr result (B.world bus.new ≡ B.world bus.old) }
+    ensures made { B.accesses bus.new ≡ word_made (B.world bus.old) regs.old op d (B.accesses bus.old) }
 {
     match op {
         WordOp::Swab => {
@@ -213,6 +222,7 @@ fn with_register<B: Bus>(
     requires { is_odd_pair op r ≡ false }
     ensures value { on_register (B.world bus.old) regs.old before op r s ≡ left result regs.new (B.world bus.new) }
     ensures err { OnErr result (B.world bus.new ≡ B.world bus.old) }
+    ensures made { B.accesses bus.new ≡ register_made (B.world bus.old) regs.old op s (B.accesses bus.old) }
 {
     let x = load_at(bus, Size::Word, regs, s)?;
     match op {
@@ -306,6 +316,7 @@ fn address_of(at: u16, place: Place) -> Result<u16, Failure>
 fn enter<B: Bus>(bus: &mut B, regs: &mut Regs, r: Reg, a: u16) -> Result<(), Failure>
     ensures value { call (B.world bus.old) regs.old r a ≡ left result regs.new (B.world bus.new) }
     ensures err { OnErr result (B.world bus.new ≡ B.world bus.old) }
+    ensures made { B.accesses bus.new ≡ push_made regs.old (B.accesses bus.old) }
 {
     let kept = get(regs, r);
     let back = get(regs, Reg::Pc);
@@ -319,6 +330,7 @@ fn enter<B: Bus>(bus: &mut B, regs: &mut Regs, r: Reg, a: u16) -> Result<(), Fai
 fn leave<B: Bus>(bus: &mut B, regs: &mut Regs, r: Reg) -> Result<(), Failure>
     ensures value { return_by (B.world bus.old) regs.old r ≡ left result regs.new (B.world bus.new) }
     ensures err { OnErr result (B.world bus.new ≡ B.world bus.old) }
+    ensures made { B.accesses bus.new ≡ pop_made regs.old (B.accesses bus.old) }
 {
     let s = get(regs, Reg::Sp);
     let x = word_at(bus, s)?;
@@ -350,6 +362,7 @@ fn do_double<B: Bus>(
 ) -> Result<Stop, Failure>
     ensures value { double_step (B.world bus.old) regs.old op size s d ≡ ended result regs.new (B.world bus.new) }
     ensures err { OnErr result (B.world bus.new ≡ B.world bus.old) }
+    ensures made { B.accesses bus.new ≡ perform_made 0 (B.world bus.old) regs.old (Instr.Double op size s d) (B.accesses bus.old) }
 {
     let x = value(bus, size, regs, s)?;
     let place = find(bus, size, regs, d)?;
@@ -367,6 +380,7 @@ fn do_sum<B: Bus>(
 ) -> Result<Stop, Failure>
     ensures value { sum_step (B.world bus.old) regs.old op s d ≡ ended result regs.new (B.world bus.new) }
     ensures err { OnErr result (B.world bus.new ≡ B.world bus.old) }
+    ensures made { B.accesses bus.new ≡ perform_made 0 (B.world bus.old) regs.old (Instr.Sum op s d) (B.accesses bus.old) }
 {
     let x = value(bus, Size::Word, regs, s)?;
     let place = find(bus, Size::Word, regs, d)?;
@@ -384,6 +398,7 @@ fn do_single<B: Bus>(
 ) -> Result<Stop, Failure>
     ensures value { single_step (B.world bus.old) regs.old op size d ≡ ended result regs.new (B.world bus.new) }
     ensures err { OnErr result (B.world bus.new ≡ B.world bus.old) }
+    ensures made { B.accesses bus.new ≡ perform_made 0 (B.world bus.old) regs.old (Instr.Single op size d) (B.accesses bus.old) }
 {
     let place = find(bus, size, regs, d)?;
     one(bus, regs, op, size, place)?;
@@ -394,6 +409,7 @@ fn do_single<B: Bus>(
 fn do_word<B: Bus>(bus: &mut B, regs: &mut Regs, op: WordOp, d: Operand) -> Result<Stop, Failure>
     ensures value { word_step (B.world bus.old) regs.old op d ≡ ended result regs.new (B.world bus.new) }
     ensures err { OnErr result (B.world bus.new ≡ B.world bus.old) }
+    ensures made { B.accesses bus.new ≡ perform_made 0 (B.world bus.old) regs.old (Instr.OnWord op d) (B.accesses bus.old) }
 {
     let place = find(bus, Size::Word, regs, d)?;
     on_word(bus, regs, op, place)?;
@@ -411,6 +427,7 @@ fn do_register<B: Bus>(
 ) -> Result<Stop, Failure>
     ensures value { register_step at (B.world bus.old) regs.old op r s ≡ ended result regs.new (B.world bus.new) }
     ensures err { OnErr result (B.world bus.new ≡ B.world bus.old) }
+    ensures made { B.accesses bus.new ≡ perform_made at (B.world bus.old) regs.old (Instr.OnRegister op r s) (B.accesses bus.old) }
 {
     if has_odd_pair(op, r) {
         return Err(failed(Kind::Reserved, at));
@@ -425,6 +442,7 @@ fn do_register<B: Bus>(
 fn do_jump<B: Bus>(bus: &mut B, regs: &mut Regs, at: u16, d: Operand) -> Result<Stop, Failure>
     ensures value { jump_step at (B.world bus.old) regs.old d ≡ ended result regs.new (B.world bus.new) }
     ensures err { OnErr result (B.world bus.new ≡ B.world bus.old) }
+    ensures made { B.accesses bus.new ≡ perform_made at (B.world bus.old) regs.old (Instr.Jump d) (B.accesses bus.old) }
 {
     let place = find(bus, Size::Word, regs, d)?;
     let to = address_of(at, place)?;
@@ -442,6 +460,7 @@ fn do_call<B: Bus>(
 ) -> Result<Stop, Failure>
     ensures value { call_step at (B.world bus.old) regs.old r d ≡ ended result regs.new (B.world bus.new) }
     ensures err { OnErr result (B.world bus.new ≡ B.world bus.old) }
+    ensures made { B.accesses bus.new ≡ perform_made at (B.world bus.old) regs.old (Instr.Call r d) (B.accesses bus.old) }
 {
     let place = find(bus, Size::Word, regs, d)?;
     let to = address_of(at, place)?;
@@ -453,6 +472,7 @@ fn do_call<B: Bus>(
 fn perform<B: Bus>(bus: &mut B, regs: &mut Regs, at: u16, i: Instr) -> Result<Stop, Failure>
     ensures value { perform_of at (B.world bus.old) regs.old i ≡ ended result regs.new (B.world bus.new) }
     ensures err { OnErr result (B.world bus.new ≡ B.world bus.old) }
+    ensures made { B.accesses bus.new ≡ perform_made at (B.world bus.old) regs.old i (B.accesses bus.old) }
 {
     match i {
         Instr::Double(op, size, s, d) => do_double(bus, regs, op, size, s, d),
@@ -485,6 +505,7 @@ fn perform<B: Bus>(bus: &mut B, regs: &mut Regs, at: u16, i: Instr) -> Result<St
 fn attempt<B: Bus>(bus: &mut B, regs: &mut Regs) -> Result<Stop, Failure>
     ensures value { plan (B.world bus.old) regs.old ≡ ended result regs.new (B.world bus.new) }
     ensures err { OnErr result (B.world bus.new ≡ B.world bus.old) }
+    ensures made { B.accesses bus.new ≡ execute_made (B.world bus.old) regs.old (B.accesses bus.old) }
 {
     let at = get(regs, Reg::Pc);
     let w = next(bus, regs)?;
@@ -497,7 +518,8 @@ fn attempt<B: Bus>(bus: &mut B, regs: &mut Regs) -> Result<Stop, Failure>
 /// One instruction: registers, flags and memory are changed as the instruction table says, or, on a fault, not at all. It
 /// takes no memory of the host.
 pub fn step<B: Bus>(regs: &mut Regs, bus: &mut B) -> Stop
-    ensures { execute (B.world bus.old) regs.old ≡ record { stop = result; regs = regs.new; world = B.world bus.new } }
+    ensures done { execute (B.world bus.old) regs.old ≡ record { stop = result; regs = regs.new; world = B.world bus.new } }
+    ensures made { B.accesses bus.new ≡ execute_made (B.world bus.old) regs.old (B.accesses bus.old) }
 {
     let mut after = *regs;
     match attempt(bus, &mut after) {

@@ -2,6 +2,8 @@
 ghost use Rattle.std.specs.Prelude.{◌≡◌, ◌<◌, OnErr, IfOk};
 ghost use Rattle.pdp_code.specs.Code.{reg_code};
 ghost use Rattle.rt_words.specs.Word.{wrap_add as sum_of, wrap_sub as difference_of};
+ghost use Rattle.pdp_core.specs.Log.{noted, FetchesWord, ReadsWord, WritesWord, WritesByte};
+ghost use Rattle.pdp_core.specs.Accesses.{next_made, address_made, load_made, operand_made, store_made};
 ghost use Rattle.pdp_core.specs.World.{word_written, byte_written};
 ghost use Rattle.pdp_core.specs.Execute.{and_then, of_refused, of_memory, goes_on, limit, reg, with_reg, pointer_reg, stride, fetch, load_word, next_word, address, load, operand, store, paired, left};
 
@@ -83,6 +85,7 @@ fn failed(e: Refused) -> Failure
 fn fetch_at<B: Bus>(bus: &mut B, at: u16) -> Result<u16, Failure>
     ensures value { result ≡ fetch (B.world bus.old) at }
     ensures kept { B.world bus.new ≡ B.world bus.old }
+    ensures made { B.accesses bus.new ≡ noted (FetchesWord at) (B.accesses bus.old) }
 {
     match bus.fetch(at) {
         Ok(w) => Ok(w),
@@ -94,6 +97,7 @@ fn fetch_at<B: Bus>(bus: &mut B, at: u16) -> Result<u16, Failure>
 pub fn word_at<B: Bus>(bus: &mut B, at: u16) -> Result<u16, Failure>
     ensures value { result ≡ load_word (B.world bus.old) at }
     ensures kept { B.world bus.new ≡ B.world bus.old }
+    ensures made { B.accesses bus.new ≡ noted (ReadsWord at) (B.accesses bus.old) }
 {
     match bus.read_word(at) {
         Ok(w) => Ok(w),
@@ -105,6 +109,7 @@ pub fn word_at<B: Bus>(bus: &mut B, at: u16) -> Result<u16, Failure>
 pub fn next<B: Bus>(bus: &mut B, regs: &mut Regs) -> Result<u16, Failure>
     ensures value { next_word (B.world bus.old) regs.old ≡ paired result regs.new }
     ensures kept { B.world bus.new ≡ B.world bus.old }
+    ensures made { B.accesses bus.new ≡ next_made regs.old (B.accesses bus.old) }
 {
     let at = get(regs, Reg::Pc);
     let w = fetch_at(bus, at)?;
@@ -136,6 +141,7 @@ fn step_down(regs: &mut Regs, r: Reg, by: u16) -> u16
 pub fn find<B: Bus>(bus: &mut B, size: Size, regs: &mut Regs, o: Operand) -> Result<Place, Failure>
     ensures value { address (B.world bus.old) size regs.old o ≡ paired result regs.new }
     ensures kept { B.world bus.new ≡ B.world bus.old }
+    ensures made { B.accesses bus.new ≡ address_made (B.world bus.old) regs.old o (B.accesses bus.old) }
 {
     match o {
         Operand::Register(r) => Ok(Place::InRegister(r)),
@@ -175,6 +181,7 @@ pub fn load_at<B: Bus>(bus: &mut B, size: Size, regs: &Regs, place: Place) -> Re
     ensures value { result ≡ load (B.world bus.old) size regs.now place }
     ensures small { IfOk result (λ x. x < limit size) }
     ensures kept { B.world bus.new ≡ B.world bus.old }
+    ensures made { B.accesses bus.new ≡ load_made size place (B.accesses bus.old) }
 {
     match place {
         Place::InRegister(r) => match size {
@@ -200,6 +207,7 @@ pub fn value<B: Bus>(bus: &mut B, size: Size, regs: &mut Regs, o: Operand) -> Re
     ensures value { operand (B.world bus.old) size regs.old o ≡ paired result regs.new }
     ensures small { IfOk result (λ x. x < limit size) }
     ensures kept { B.world bus.new ≡ B.world bus.old }
+    ensures made { B.accesses bus.new ≡ operand_made (B.world bus.old) size regs.old o (B.accesses bus.old) }
 {
     let place = find(bus, size, regs, o)?;
     load_at(bus, size, regs, place)
@@ -209,6 +217,7 @@ pub fn value<B: Bus>(bus: &mut B, size: Size, regs: &mut Regs, o: Operand) -> Re
 pub fn write_word<B: Bus>(bus: &mut B, regs: &Regs, at: u16, x: u16) -> Result<(), Failure>
     ensures value { and_then (of_memory (word_written (B.world bus.old) at x)) (λ w. goes_on w regs.now) ≡ left result regs.now (B.world bus.new) }
     ensures err { OnErr result (B.world bus.new ≡ B.world bus.old) }
+    ensures made { B.accesses bus.new ≡ noted (WritesWord at) (B.accesses bus.old) }
 {
     match bus.write_word(at, x) {
         Ok(()) => Ok(()),
@@ -219,6 +228,7 @@ pub fn write_word<B: Bus>(bus: &mut B, regs: &Regs, at: u16, x: u16) -> Result<(
 fn write_byte<B: Bus>(bus: &mut B, regs: &Regs, at: u16, x: u8) -> Result<(), Failure>
     ensures value { and_then (of_memory (byte_written (B.world bus.old) at x)) (λ w. goes_on w regs.now) ≡ left result regs.now (B.world bus.new) }
     ensures err { OnErr result (B.world bus.new ≡ B.world bus.old) }
+    ensures made { B.accesses bus.new ≡ noted (WritesByte at) (B.accesses bus.old) }
 {
     match bus.write_byte(at, x) {
         Ok(()) => Ok(()),
@@ -230,6 +240,7 @@ fn write_byte<B: Bus>(bus: &mut B, regs: &Regs, at: u16, x: u8) -> Result<(), Fa
 pub fn store_word<B: Bus>(bus: &mut B, regs: &mut Regs, place: Place, x: u16) -> Result<(), Failure>
     ensures value { store (B.world bus.old) Size.Word regs.old place x ≡ left result regs.new (B.world bus.new) }
     ensures err { OnErr result (B.world bus.new ≡ B.world bus.old) }
+    ensures made { B.accesses bus.new ≡ store_made Size.Word place (B.accesses bus.old) }
 {
     match place {
         Place::InRegister(r) => {
@@ -245,6 +256,7 @@ pub fn store_word<B: Bus>(bus: &mut B, regs: &mut Regs, place: Place, x: u16) ->
 pub fn store_byte<B: Bus>(bus: &mut B, regs: &mut Regs, place: Place, x: u8) -> Result<(), Failure>
     ensures value { store (B.world bus.old) Size.Byte regs.old place x ≡ left result regs.new (B.world bus.new) }
     ensures err { OnErr result (B.world bus.new ≡ B.world bus.old) }
+    ensures made { B.accesses bus.new ≡ store_made Size.Byte place (B.accesses bus.old) }
 {
     match place {
         Place::InRegister(r) => {
@@ -268,6 +280,7 @@ pub fn store_at<B: Bus>(
     requires { x < limit size }
     ensures value { store (B.world bus.old) size regs.old place x ≡ left result regs.new (B.world bus.new) }
     ensures err { OnErr result (B.world bus.new ≡ B.world bus.old) }
+    ensures made { B.accesses bus.new ≡ store_made size place (B.accesses bus.old) }
 {
     match size {
         Size::Word => store_word(bus, regs, place, x),

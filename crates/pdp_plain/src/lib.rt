@@ -1,7 +1,7 @@
 //! A flat memory for one task: all its bytes in one vector, with the parts of it that the task may use.
 #![tactic(auto)]
 
-ghost use Rattle.std.specs.Prelude.{◌≡◌, ℕ, ◌+◌, ◌*◌, ◌%◌, ◌/◌, ◌<◌, ◌^◌, length, slice_index, IfOk};
+ghost use Rattle.std.specs.Prelude.{◌≡◌, ℕ, ◌+◌, ◌*◌, ◌%◌, ◌/◌, ◌<◌, ◌^◌, length, slice_index, None, IfOk};
 ghost use Rattle.pdp_core.specs.World.{word_at};
 ghost use Rattle.pdp_core.specs.Protection.{protected};
 
@@ -49,6 +49,8 @@ impl FlatBus {
 
 impl Bus for FlatBus {
     ghost world = { λ b. protected b.protection (λ a. slice_index b.bytes.items a) };
+
+    ghost accesses = { λ _. None };
 
     fn fetch(&mut self, at: u16) -> Result<u16, Refused> {
         self.protection.fetch(at)?;

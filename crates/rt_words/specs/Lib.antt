@@ -3,3 +3,5 @@ pub mod Built
 pub mod Causes
 pub mod Named
 pub mod formers
+pub mod Operators
+pub mod Laws

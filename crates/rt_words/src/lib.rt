@@ -6,21 +6,32 @@
 //!   number, the spare: so many pushes take no memory.
 //! - [`Boxed`]: a box that contracts see as what it holds.
 //! - [`Name`]: a text of 1 to 32 bytes.
-//! - [`wrap_add`] and [`wrap_sub`]: sums and differences that keep the low 16 bits.
+//! - [`wrap_add`], [`wrap_sub`], [`wrap_mul`], [`frac_mul`], [`sdiv`], [`shift`]: the operators of the
+//!   language on words of 16 bits, and [`signed`], the number for which a word stands.
+//! - [`octal6`]: a word in six octal digits.
 #![tactic(auto)]
 
 mod arithmetic;
 mod boxed;
 mod builder;
+mod kinds;
+mod laws;
 mod list;
 mod memory;
 mod name;
+mod operators;
 #[cfg(test)]
 mod tests;
 
-pub use arithmetic::{wrap_add, wrap_sub};
+pub use arithmetic::{low_word, signed, wrap_add, wrap_sub};
 pub use boxed::Boxed;
 pub use builder::{ListBuilder, Text};
+pub use kinds::{Quotient, Shift};
+pub use laws::{
+    bytes_are_words, division_is_whole, words_are_exact, words_are_numbers, words_are_ordered,
+    words_wrap,
+};
 pub use list::{Bytes, List};
 pub use memory::Memory;
 pub use name::Name;
+pub use operators::{frac_mul, octal6, sdiv, shift, wrap_mul};

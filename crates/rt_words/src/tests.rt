@@ -1,4 +1,7 @@
-use crate::{Boxed, Bytes, List, ListBuilder, Memory, Name, Text, wrap_add, wrap_sub};
+use crate::{
+    Boxed, Bytes, List, ListBuilder, Memory, Name, Quotient, Shift, Text, frac_mul, octal6, sdiv,
+    shift, signed, wrap_add, wrap_mul, wrap_sub,
+};
 use std::alloc::Global;
 use std::test::Fail;
 
@@ -38,6 +41,8 @@ fn lists_hold_what_is_pushed(rt: HostRuntime) -> Result<(), Fail> {
     }
     let copy = list.copy(alloc)?;
     assert_eq!(rt; copy.as_slice(), [1u16, 65535, 1].as_slice());
+    list.set(1, 9);
+    assert_eq!(rt; list.as_slice(), [1u16, 9, 1].as_slice());
     assert_eq!(rt; list.pop(), Some(1));
     assert_eq!(rt; list.len(), 2);
     let mut bytes = Bytes::new(alloc, 3)?;
@@ -68,7 +73,39 @@ fn builders_and_names(rt: HostRuntime) -> Result<(), Fail> {
         };
         assert!(rt; same);
     }
-    assert_eq!(rt; wrap_add(65535, 2), 1);
-    assert_eq!(rt; wrap_sub(0, 32768), 32768);
+    Ok(())
+}
+
+#[test]
+fn division_answers(rt: HostRuntime) -> Result<(), Fail> {
+    assert_eq!(rt; sdiv(65535, 0), Quotient::Zero);
+    assert_eq!(rt; sdiv(32768, 65535), Quotient::Wide);
+    assert_eq!(rt; sdiv(65529, 2), Quotient::Ok(65533, 65535));
+    assert_eq!(rt; sdiv(65529, 3), Quotient::Ok(65534, 65535));
+    assert_eq!(rt; sdiv(32768, 1), Quotient::Ok(32768, 0));
+    Ok(())
+}
+
+#[test]
+fn words_are_computed(rt: HostRuntime) -> Result<(), Fail> {
+    let answers = [
+        (wrap_add(32767, 1), 32768),
+        (wrap_add(65535, 2), 1),
+        (wrap_sub(0, 32768), 32768),
+        (wrap_mul(300, 300), 24464),
+        (frac_mul(0x4000, 0x4000), 0x2000),
+        (frac_mul(32768, 32768), 32768),
+        (shift(Shift::Srl, 65535, 4), 0x0FFF),
+        (shift(Shift::Sra, 0x8001, 65521), 0xC000),
+        (shift(Shift::Sll, 0x8001, 16), 0x8001),
+        (shift(Shift::Sla, 0x8001, 1), 2),
+    ];
+    for (answer, wanted) in answers {
+        assert_eq!(rt; answer, wanted);
+    }
+    assert_eq!(rt; signed(32768), -32768);
+    for (word, digits) in [(0, b"000000"), (65, b"000101"), (65535, b"177777")] {
+        assert_eq!(rt; octal6(word).as_slice(), digits.as_slice());
+    }
     Ok(())
 }

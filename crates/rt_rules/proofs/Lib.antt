@@ -1,0 +1,13 @@
+pub mod Rows
+pub mod Firsts
+pub mod Starts
+pub mod Counting
+pub mod Giving
+pub mod Walks
+pub mod Ranges
+pub mod Finds
+pub mod Delays
+pub mod Turns
+pub mod Raises
+pub mod Waiters
+pub mod Owners

@@ -1,0 +1,5 @@
+pub mod Roster
+pub mod First
+pub mod Rules
+pub mod Code
+pub mod Laws
