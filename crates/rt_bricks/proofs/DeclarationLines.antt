@@ -1,5 +1,5 @@
 -- The parser of each line of declarations is right for its line.
-use Rattle.std.proofs.Common.{◌≡◌, ◌≢◌, ℕ, ◌-◌, Bool, true, false, if◌then◌else◌, List, [], ◌∷◌, Option, Some, None, ◌⊎◌, inl, inr, refl, sym, ap, subst, ◌∙◌, arith}
+use Rattle.std.proofs.Common.{◌≡◌, ◌≢◌, ℕ, ◌-◌, Bool, true, false, if◌then◌else◌, List, [], ◌∷◌, Option, Some, None, ◌⊎◌, inl, inr, refl, sym, subst, arith}
 use Rattle.rt_pieces.specs.declared.item.Item.{Item}
 use Rattle.rt_pieces.specs.declared.item.Mark.TheVariants as m
 use Rattle.rt_pieces.specs.declared.item.Word.{Word}
@@ -30,7 +30,6 @@ use Rattle.rt_bricks.specs.declared.tree.Import.{Import}
 use Rattle.rt_bricks.specs.declared.tree.Import.TheVariants as import
 use Rattle.rt_bricks.specs.declared.tree.Declaration.{Declaration}
 use Rattle.rt_bricks.specs.declared.fields.Field.{Field}
-use Rattle.rt_bricks.specs.declared.fields.Collected.{Collected}
 use Rattle.rt_bricks.specs.Tables.{begins_declaration}
 use Rattle.rt_bricks.specs.Declarations as line
 use Rattle.rt_bricks.specs.DeclarationParser as reads

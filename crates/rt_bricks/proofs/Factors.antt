@@ -1,9 +1,6 @@
--- Lines that begin alike, and a field whose name may be a mode.
-use Rattle.std.proofs.Common.{◌≡◌, List, [], ◌∷◌, Option, Some, None, inl, inr, refl, sym, ap, subst, ◌∙◌}
-use Rattle.rt_pieces.specs.declared.item.Item.{Item}
-use Rattle.rt_grammar.specs.declared.at.At.{At}
-use Rattle.rt_grammar.specs.declared.at.Ident.{Ident}
-use Rattle.rt_grammar.specs.Parts.{Part, either, optional, nothing, starting, ◌>>=◌, ident, next_of}
+-- Lines that begin alike, read as one up to where they part.
+use Rattle.std.proofs.Common.{inl, inr}
+use Rattle.rt_grammar.specs.Parts.{Part, either, ◌>>=◌}
 use Rattle.rt_grammar.proofs.Wider.{Same, factored}
 
 -- as factored, where what stands behind the second line is itself put together from lines

@@ -1,6 +1,7 @@
 pub mod Tables
 pub mod Starts
 pub mod Declarations
+pub mod FieldGroups
 pub mod Modules
 pub mod StartParser
 pub mod DeclarationParser

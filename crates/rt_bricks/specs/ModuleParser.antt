@@ -1,5 +1,5 @@
 -- The parsers of modules as functions, which decide by what comes next.
-use Rattle.std.specs.Prelude.{ℕ, Bool, List, [], ◌∷◌}
+use Rattle.std.specs.Prelude.{ℕ, Bool, List, []}
 use Rattle.rt_pieces.specs.declared.item.Item.{Item}
 use Rattle.rt_pieces.specs.declared.item.Mark.TheVariants as m
 use Rattle.rt_pieces.specs.declared.item.Word.TheVariants as w

@@ -1,5 +1,5 @@
 -- The grammar of modules, one part for each line.
-use Rattle.std.specs.Prelude.{List, [], ◌∷◌}
+use Rattle.std.specs.Prelude.{[]}
 use Rattle.rt_pieces.specs.declared.item.Mark.TheVariants as m
 use Rattle.rt_pieces.specs.declared.item.Word.TheVariants as w
 use Rattle.rt_grammar.specs.Parts.{Part, nothing, ◌>>=◌, turns, within, here, mark, word, number, ident, listed_in, push}

@@ -1,13 +1,11 @@
 -- The parsers of starts as functions, which decide by what comes next.
-use Rattle.std.specs.Prelude.{ℕ, zero, suc, Bool, List, [], ◌∷◌, Option}
-use Rattle.rt_pieces.specs.declared.item.Item.{Item}
+use Rattle.std.specs.Prelude.{ℕ, zero, suc, List, [], ◌∷◌, Option}
 use Rattle.rt_pieces.specs.declared.item.Mark.TheVariants as m
 use Rattle.rt_grammar.specs.declared.next.Next.{Next}
 use Rattle.rt_grammar.specs.declared.next.Next.TheVariants as next
-use Rattle.rt_grammar.specs.Parts.{next_of, push}
+use Rattle.rt_grammar.specs.Parts.{push}
 use Rattle.rt_grammar.specs.Parsing.{Parser, ◌>>=◌, pure, refuse, here, by_next, optional, mark, number, text, ident, listed_in, in_table, is_mark, mark_comes, within, turns, turns_from}
 use Rattle.rt_expression.specs.declared.limits.Context.{Context}
-use Rattle.rt_expression.specs.Tables.{is_link}
 use Rattle.rt_expression.specs.ExpressionParser.{link_comes}
 use Rattle.rt_bricks.specs.declared.tree.Sign.{Sign}
 use Rattle.rt_bricks.specs.declared.tree.Parenthesized.{Parenthesized}

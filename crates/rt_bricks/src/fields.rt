@@ -1,9 +1,11 @@
 //! Modes and the names that have them: fields of records and parameters (BS 5904, modes and procedures).
 
-ghost use Rattle.std.specs.Prelude.{◌≡◌, [], ◌∷◌, IfOk};
+ghost use Rattle.std.specs.Prelude.{◌≡◌, ℕ, [], ◌∷◌, IfOk};
+ghost use Rattle.rt_expression.specs.declared.limits.Context.{Context as Limited};
 ghost use Rattle.rt_grammar.specs.Parsing.{Gives};
 ghost use Rattle.rt_bricks.specs.Declarations as line;
 ghost use Rattle.rt_bricks.specs.DeclarationParser as reads;
+ghost use Rattle.rt_bricks.specs.FieldGroups.{FieldsAreGroups};
 
 use crate::tree::Fields;
 use rt_expression::{begins_mode_by_word, written_mode};
@@ -212,3 +214,9 @@ pub fn fields_up_to(
     let (read, rest) = more_fields(alloc, context, modes, parentheses, most, first, rest)?;
     Ok((all_fields(read)?, rest))
 }
+
+/// Fields name by name are fields mode by mode, as the language has them: `mode name {, [mode] name}` is
+/// `mode name {, name} {, mode name {, name}}`.
+pub fn fields_are_groups()
+    ensures { (c : Limited) → (modes parentheses : ℕ) → FieldsAreGroups c modes parentheses }
+{}

@@ -13,6 +13,7 @@ mod starts;
 mod table;
 mod tree;
 
+pub use fields::fields_are_groups;
 pub use parse::{one_module, parse_module};
 pub use rt_syntax::SyntaxFault;
 pub use tree::{
