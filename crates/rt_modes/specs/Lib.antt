@@ -1,0 +1,2 @@
+pub mod FullMode
+pub mod Left
