@@ -71,6 +71,10 @@ fields_inside fs = between_commas (map field_words fs) ++ Says (codes ")") ∷ [
 abbrev pub definition : ModeTable → ℕ → List Word
 definition t k = Says (name_of t k ++ codes "(") ∷ fields_inside (fields_of t k)
 
+-- DATA(fields)
+abbrev pub data_words : List Field → List Word
+data_words fs = Says (codes "DATA(") ∷ fields_inside fs
+
 -- the bytes of words
 abbrev pub spelled : ModeTable → List Word → List ℕ
 spelled t [] = []
@@ -112,3 +116,10 @@ full_text t ws = spelled t (ws ++ where_words t (reached t ws (suc (length t.rec
 -- the full mode of a mode
 abbrev pub FullMode : ModeTable → Mode → List ℕ
 FullMode t m = full_text t (mode_words m)
+
+-- the full mode of a data brick with these fields, and of every stack
+abbrev pub FullData : ModeTable → List Field → List ℕ
+FullData t fs = full_text t (data_words fs)
+
+abbrev pub FullStack : List ℕ
+FullStack = codes "STACK"

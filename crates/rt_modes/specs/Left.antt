@@ -1,12 +1,13 @@
 -- What is left of a text while it is written piece by piece, as the code keeps it.
-use Rattle.std.specs.Prelude.{◌≡◌, ℕ, zero, suc, ◌+◌, ◌-◌, ◌^◌, List, [], ◌∷◌, ◌++◌, length, codes, Option, None, Some, map, option_map, slice_get, if◌then◌else◌, ◌==◌}
-use Rattle.rt_modes.specs.FullMode.{Word, Says, mode_words, after_commas, between_commas, result_words, field_words, fields_inside, name_of, fields_of, spelled, mentioned, with_new}
+use Rattle.std.specs.Prelude.{◌≡◌, ℕ, zero, suc, ◌+◌, ◌-◌, ◌^◌, List, [], ◌∷◌, ◌++◌, length, drop, codes, Option, None, Some, map, option_map, slice_get, if◌then◌else◌, ◌==◌}
+use Rattle.rt_modes.specs.FullMode.{Word, Says, mode_words, after_commas, between_commas, result_words, field_words, fields_inside, data_words, name_of, fields_of, spelled, mentioned, with_new}
 use Rattle.rt_modes.specs.declared.mode.Field.{Field}
 use Rattle.rt_modes.specs.declared.mode.Mode.{Mode}
 use Rattle.rt_modes.specs.declared.mode.ModeTable.{ModeTable}
 use Rattle.rt_modes.specs.declared.pieces.Pieces.{Pieces}
 use Rattle.rt_modes.specs.declared.pieces.Todo.{Todo}
 use Rattle.rt_modes.specs.declared.pieces.Todo.TheVariants as todo
+use Rattle.rt_modes.specs.declared.same.Reader.{Reader}
 
 -- the parameters, with the parenthesis that closes them and the result
 abbrev pub parameters_inside : List Mode → Option Mode → List Word
@@ -25,6 +26,7 @@ todo_words (todo.Mode m) = mode_words m.now
 todo_words (todo.Parameters ps r) = parameters_after ps.now r.now
 todo_words (todo.Name n) = Says (32 ∷ n.now) ∷ []
 todo_words (todo.Fields fs) = fields_after fs.now
+todo_words (todo.Data fs) = data_words fs.now
 
 -- the words of the parts, the last part first
 abbrev pub stacked : List Todo → List Word
@@ -54,7 +56,27 @@ begun p ws = words_left p.table.now p.order p.place (ws ++ stacked p.todo)
 abbrev pub left : Pieces → List Word
 left p = begun p []
 
+-- over these records, with nothing to come and nothing mentioned
+pub record IsEmpty (p : Pieces) (t : ModeTable) : Type 0 where
+  pub table : p.table.now ≡ t
+  pub todo : p.todo ≡ []
+  pub order : p.order ≡ []
+  pub place : p.place ≡ 0
+
 -- one word was taken from those that were left, and its bytes were appended
 pub record Puts (t : ModeTable) (before after : List Word) (old new : List ℕ) : Type 0 where
   pub text : new ++ spelled t after ≡ old ++ spelled t before
   pub words : length after + 1 ≡ length before
+
+-- the text of the words left
+abbrev pub text_of : Pieces → List ℕ
+text_of p = spelled p.table.now (left p)
+
+-- the bytes of a reader that are left
+abbrev pub rest_of : Reader → List ℕ
+rest_of r = drop r.place r.piece.items ++ text_of r.pieces
+
+-- a text that grows by another has grown by the beginning of it
+pub record Grew (text old new : List ℕ) : Type 0 where
+  pub rest : List ℕ
+  pub is : new ++ rest ≡ old ++ text

@@ -3,5 +3,9 @@
 
 mod mode;
 mod pieces;
+mod same;
+mod write;
 
 pub use mode::{Field, Mode, ModeTable, RecordDef};
+pub use same::{same_data_mode, same_full_mode};
+pub use write::{write_data_mode, write_mode};

@@ -2,12 +2,12 @@
 //! come is known by the modes on the way to it and by the records mentioned so far.
 
 ghost use Rattle.std.specs.Prelude.{◌≡◌, ◌+◌, ◌<◌, ◌^◌, [], ◌∷◌, ◌++◌, length, codes, decimal, IfOk, OnOk, OnSome, slice_get, MatchBool};
-ghost use Rattle.rt_modes.specs.FullMode.{Mentions, mode_words, name_of, fields_of, spelled, fields_inside};
-ghost use Rattle.rt_modes.specs.Left.{lead, words_left, begun, left, parameters_inside, parameters_after, fields_after, Puts};
+ghost use Rattle.rt_modes.specs.FullMode.{full_text, Mentions, mode_words, name_of, fields_of, spelled, fields_inside};
+ghost use Rattle.rt_modes.specs.Left.{todo_words, IsEmpty, lead, text_of, begun, left, parameters_inside, parameters_after, fields_after, Puts};
 
 use crate::mode::{Field, Mode, ModeTable};
 use itoa::Buffer;
-use rt_words::{Boxed, List, Memory, Name, Text};
+use rt_words::{Boxed, List, Memory, Name};
 use std::alloc::Global;
 
 /// A part of a text that is still to come.
@@ -22,9 +22,12 @@ pub enum Todo<'t> {
     /// What follows a field or the opening parenthesis of a record: the further fields, each after a
     /// comma, and the closing parenthesis.
     Fields(&'t [Field]),
+    /// A data brick of these fields.
+    Data(&'t [Field]),
 }
 
 /// The text of a full mode, as far as it is still to come.
+#[derive(Drop)]
 pub struct Pieces<'t> {
     table: &'t ModeTable,
     /// The parts that are still to come, the next last.
@@ -36,76 +39,86 @@ pub struct Pieces<'t> {
 }
 
 impl<'t> Pieces<'t> {
-    /// The full mode of a mode.
-    pub fn of_mode(
-        alloc: Global,
-        table: &'t ModeTable,
-        mode: &'t Mode,
-    ) -> Result<Pieces<'t>, Memory>
-        ensures words { IfOk result (λ p. left p ≡ words_left table.now [] 0 (mode_words mode.now)) }
-        ensures table { IfOk result (λ p. p.table.now ≡ table.now) }
+    /// A text over the records of `table` of which nothing is to come.
+    fn new(alloc: Global, table: &'t ModeTable) -> Result<Pieces<'t>, Memory>
+        ensures { IfOk result (λ p. IsEmpty p table.now) }
     {
-        let mut todo = List::new(alloc, 0)?;
-        todo.push(Todo::Mode(mode))?;
         Ok(Pieces {
             table,
-            todo,
+            todo: List::new(alloc, 0)?,
             order: List::new(alloc, 0)?,
             place: 0,
         })
     }
 
-    /// Appends the next piece to `out`; false where nothing is left.
-    pub fn next(&mut self, out: &mut Text) -> Result<bool, Memory>
+    /// The full mode of what is to come first.
+    pub fn of(
+        alloc: Global,
+        table: &'t ModeTable,
+        first: Todo<'t>,
+    ) -> Result<Pieces<'t>, Memory>
+        ensures { IfOk result (λ p. text_of p ≡ full_text table.now (todo_words first.entry)) }
+    {
+        let mut pieces = Pieces::new(alloc, table)?;
+        pieces.todo.push(first)?;
+        Ok(pieces)
+    }
+
+    /// Appends the next piece to `piece`; false where nothing is left.
+    pub fn next(&mut self, piece: &mut Vec<u8>) -> Result<bool, Memory>
         ensures table { self.new.table.now ≡ self.old.table.now }
-        ensures piece { IfOk result (λ some. MatchBool some (Puts self.old.table.now (left self.old) (left self.new) out.old.items out.new.items) (left self.old ≡ [])) }
+        ensures piece { IfOk result (λ some. MatchBool some (Puts self.old.table.now (left self.old) (left self.new) piece.old.items piece.new.items) (left self.old ≡ [])) }
     {
         match self.todo.pop() {
-            Some(Todo::Mode(mode)) => self.begin_mode(mode, out)?,
-            Some(Todo::Parameters(rest, answer)) => self.go_on_with_parameters(rest, answer, out)?,
+            Some(Todo::Mode(mode)) => self.begin_mode(mode, piece)?,
+            Some(Todo::Parameters(rest, answer)) => self.go_on_with_parameters(rest, answer, piece)?,
             Some(Todo::Name(name)) => {
-                out.push(b' ')?;
-                out.push_all(name.as_slice())?;
+                piece.extend_from_slice(b" ")?;
+                piece.extend_from_slice(name.as_slice())?;
             }
-            Some(Todo::Fields(rest)) => self.go_on_with_fields(rest, out)?,
-            None => return self.begin_record(out),
+            Some(Todo::Fields(rest)) => self.go_on_with_fields(rest, piece)?,
+            Some(Todo::Data(fields)) => {
+                piece.extend_from_slice(b"DATA(")?;
+                self.push_fields(fields)?;
+            }
+            None => return self.begin_record(piece),
         }
         Ok(true)
     }
 
-    fn begin_mode(&mut self, mode: &'t Mode, out: &mut Text) -> Result<(), Memory>
+    fn begin_mode(&mut self, mode: &'t Mode, piece: &mut Vec<u8>) -> Result<(), Memory>
         ensures table { self.new.table.now ≡ self.old.table.now }
-        ensures piece { OnOk result (Puts self.old.table.now (begun self.old (mode_words mode.now)) (left self.new) out.old.items out.new.items) }
+        ensures piece { OnOk result (Puts self.old.table.now (begun self.old (mode_words mode.now)) (left self.new) piece.old.items piece.new.items) }
     {
         match mode {
-            Mode::Byte => out.push_all(b"BYTE")?,
-            Mode::Int => out.push_all(b"INT")?,
-            Mode::Frac => out.push_all(b"FRAC")?,
-            Mode::Label => out.push_all(b"LABEL")?,
+            Mode::Byte => piece.extend_from_slice(b"BYTE")?,
+            Mode::Int => piece.extend_from_slice(b"INT")?,
+            Mode::Frac => piece.extend_from_slice(b"FRAC")?,
+            Mode::Label => piece.extend_from_slice(b"LABEL")?,
             Mode::Ref(of) => {
-                out.push_all(b"REF ")?;
+                piece.extend_from_slice(b"REF ")?;
                 self.todo.push(Todo::Mode(of.get()))?;
             }
             Mode::RefArray(of) => {
-                out.push_all(b"REF ARRAY ")?;
+                piece.extend_from_slice(b"REF ARRAY ")?;
                 self.todo.push(Todo::Mode(of.get()))?;
             }
             Mode::Array(length, of) => {
-                put_array(*length, out)?;
+                put_array(*length, piece)?;
                 self.todo.push(Todo::Mode(of.get()))?;
             }
-            Mode::Record(number) => self.mention(*number, out)?,
+            Mode::Record(number) => self.mention(*number, piece)?,
             Mode::Proc(parameters, answer) => {
-                out.push_all(b"PROC(")?;
+                piece.extend_from_slice(b"PROC(")?;
                 self.push_parameters(parameters.as_slice(), answer)?;
             }
         }
         Ok(())
     }
 
-    fn mention(&mut self, number: u16, out: &mut Text) -> Result<(), Memory>
+    fn mention(&mut self, number: u16, piece: &mut Vec<u8>) -> Result<(), Memory>
         ensures table { self.new.table.now ≡ self.old.table.now }
-        ensures piece { OnOk result (Puts self.old.table.now (begun self.old (Mentions number ∷ [])) (left self.new) out.old.items out.new.items) }
+        ensures piece { OnOk result (Puts self.old.table.now (begun self.old (Mentions number ∷ [])) (left self.new) piece.old.items piece.new.items) }
     {
         let record = match self.table.records.get(usize::from(number)) {
             Some(record) => record,
@@ -114,7 +127,7 @@ impl<'t> Pieces<'t> {
         if !self.order.as_slice().contains(&number) {
             self.order.push(number)?;
         }
-        out.push_all(record.name.as_slice())?;
+        piece.extend_from_slice(record.name.as_slice())?;
         Ok(())
     }
 
@@ -140,19 +153,19 @@ impl<'t> Pieces<'t> {
         &mut self,
         rest: &'t [Mode],
         answer: &'t Option<Boxed<Mode>>,
-        out: &mut Text,
+        piece: &mut Vec<u8>,
     ) -> Result<(), Memory>
         ensures table { self.new.table.now ≡ self.old.table.now }
-        ensures piece { OnOk result (Puts self.old.table.now (begun self.old (parameters_after rest.now answer.now)) (left self.new) out.old.items out.new.items) }
+        ensures piece { OnOk result (Puts self.old.table.now (begun self.old (parameters_after rest.now answer.now)) (left self.new) piece.old.items piece.new.items) }
     {
         if !rest.is_empty() {
-            out.push(b',')?;
+            piece.extend_from_slice(b",")?;
             return self.push_parameters(rest, answer);
         }
         match answer {
-            None => out.push(b')')?,
+            None => piece.extend_from_slice(b")")?,
             Some(mode) => {
-                out.push_all(b") ")?;
+                piece.extend_from_slice(b") ")?;
                 self.todo.push(Todo::Mode(mode.get()))?;
             }
         }
@@ -174,15 +187,15 @@ impl<'t> Pieces<'t> {
         Ok(())
     }
 
-    fn go_on_with_fields(&mut self, rest: &'t [Field], out: &mut Text) -> Result<(), Memory>
+    fn go_on_with_fields(&mut self, rest: &'t [Field], piece: &mut Vec<u8>) -> Result<(), Memory>
         ensures table { self.new.table.now ≡ self.old.table.now }
-        ensures piece { OnOk result (Puts self.old.table.now (begun self.old (fields_after rest.now)) (left self.new) out.old.items out.new.items) }
+        ensures piece { OnOk result (Puts self.old.table.now (begun self.old (fields_after rest.now)) (left self.new) piece.old.items piece.new.items) }
     {
         if rest.is_empty() {
-            out.push(b')')?;
+            piece.extend_from_slice(b")")?;
             return Ok(());
         }
-        out.push(b',')?;
+        piece.extend_from_slice(b",")?;
         self.push_fields(rest)
     }
 
@@ -194,18 +207,18 @@ impl<'t> Pieces<'t> {
         self.order.as_slice().get(self.place).copied()
     }
 
-    fn begin_record(&mut self, out: &mut Text) -> Result<bool, Memory>
+    fn begin_record(&mut self, piece: &mut Vec<u8>) -> Result<bool, Memory>
         ensures table { self.new.table.now ≡ self.old.table.now }
-        ensures piece { self.old.todo ≡ [] → IfOk result (λ some. MatchBool some (Puts self.old.table.now (left self.old) (left self.new) out.old.items out.new.items) (left self.old ≡ [])) }
+        ensures piece { self.old.todo ≡ [] → IfOk result (λ some. MatchBool some (Puts self.old.table.now (left self.old) (left self.new) piece.old.items piece.new.items) (left self.old ≡ [])) }
     {
         let number = match self.next_record() {
             Some(number) => number,
             None => return Ok(false),
         };
         let (name, fields) = record(self.table, number);
-        out.push_all(lead(self.place))?;
-        out.push_all(name)?;
-        out.push(b'(')?;
+        piece.extend_from_slice(lead(self.place))?;
+        piece.extend_from_slice(name)?;
+        piece.extend_from_slice(b"(")?;
         self.place += 1;
         self.push_fields(fields)?;
         Ok(true)
@@ -230,12 +243,12 @@ fn record(table: &ModeTable, number: u16) -> (&[u8], &[Field])
     }
 }
 
-fn put_array(length: u16, out: &mut Text) -> Result<(), Memory>
-    ensures { OnOk result (out.new.items ≡ out.old.items ++ (codes "ARRAY(" ++ decimal length ++ codes ") ")) }
+fn put_array(length: u16, piece: &mut Vec<u8>) -> Result<(), Memory>
+    ensures { OnOk result (piece.new.items ≡ piece.old.items ++ (codes "ARRAY(" ++ decimal length ++ codes ") ")) }
 {
     let mut buffer = Buffer::new();
-    out.push_all(b"ARRAY(")?;
-    out.push_all(buffer.format(length).as_bytes())?;
-    out.push_all(b") ")?;
+    piece.extend_from_slice(b"ARRAY(")?;
+    piece.extend_from_slice(buffer.format(length).as_bytes())?;
+    piece.extend_from_slice(b") ")?;
     Ok(())
 }

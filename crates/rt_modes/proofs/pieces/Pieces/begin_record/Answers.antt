@@ -10,5 +10,5 @@ returns-in-None-clause-piece c = λ none. let v = c.in-None.ensures.value in rw 
 pub returns-clause-piece : goal.returns-clause-piece
 returns-clause-piece c = λ none.
     rw none (begins _ _ _ _ _ _ _ _ _ c.in-Some.ensures.within c.in-Some.ensures.value c.record.ensures.name c.record.ensures.fields
-    (rw (c.in_ok-push.ensures.ok, c.in_ok-push_all-2.ensures.ok, c.in_ok-push_all.ensures.ok, c.lead.ensures) refl)
+    (rw (c.in_ok-extend_from_slice-3.ensures.items, c.in_ok-extend_from_slice-2.ensures.items, c.in_ok-extend_from_slice.ensures.items, c.lead.ensures) refl)
     (c.in_ok-push_fields.ensures.words ∙ rw (none, append-nil) refl))

@@ -14,7 +14,12 @@ pub returns-in_ok-go_on_with_fields-in-Some-Fields-clause-piece : goal.returns-i
 returns-in_ok-go_on_with_fields-in-Some-Fields-clause-piece c =
     rw (one_more _ _ _ c.in-Some-Fields.ensures, c.in-Some-Fields.field-0-is) c.in_ok-go_on_with_fields-in-Some-Fields.ensures.piece
 
-pub returns-in_ok-push_all-in-Some-Name-clause-piece : goal.returns-in_ok-push_all-in-Some-Name-clause-piece
-returns-in_ok-push_all-in-Some-Name-clause-piece c =
+pub returns-in_ok-extend_from_slice-in-Some-Name-2-clause-piece : goal.returns-in_ok-extend_from_slice-in-Some-Name-2-clause-piece
+returns-in_ok-extend_from_slice-in-Some-Name-2-clause-piece c =
     rw (one_more _ _ _ c.in-Some-Name.ensures, c.in-Some-Name.field-0-is)
-    (says _ c.args.self.now.order c.args.self.now.place _ (stacked c.pop.new.self) _ _ _ refl (rw (c.in_ok-push_all-in-Some-Name.ensures.ok, c.in_ok-push-in-Some-Name.ensures.ok, c.as_slice.ensures.bytes) (simp append_assoc)))
+    (says _ c.args.self.now.order c.args.self.now.place _ (stacked c.pop.new.self) _ _ _ refl (rw (c.in_ok-extend_from_slice-in-Some-Name-2.ensures.items, c.in_ok-extend_from_slice-in-Some-Name.ensures.items, c.as_slice.ensures.bytes) (simp append_assoc)))
+
+pub returns-in_ok-push_fields-in-Some-Data-clause-piece : goal.returns-in_ok-push_fields-in-Some-Data-clause-piece
+returns-in_ok-push_fields-in-Some-Data-clause-piece c =
+    rw (one_more _ _ _ c.in-Some-Data.ensures, c.in-Some-Data.field-0-is, c.in_ok-push_fields-in-Some-Data.ensures.words)
+    (says _ _ _ _ _ _ _ _ refl c.in_ok-extend_from_slice-in-Some-Data.ensures.items)
