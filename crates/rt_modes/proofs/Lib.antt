@@ -1,6 +1,10 @@
 pub mod Closing
+pub mod Levels
+pub mod ModeReads
 pub mod Modes
 pub mod Opening
 pub mod Prefixes
 pub mod Records
+pub mod Right
 pub mod Stack
+pub mod Turning

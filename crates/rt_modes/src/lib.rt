@@ -1,11 +1,17 @@
 //! Modes, the full mode as a text, and the spelling of a mode in an object.
 #![tactic(auto)]
 
+mod code;
+mod fault;
+mod fields;
 mod mode;
 mod pieces;
+mod read;
 mod same;
 mod write;
 
+pub use fault::ModeFault;
 pub use mode::{Field, Mode, ModeTable, RecordDef};
+pub use read::read_mode;
 pub use same::{same_data_mode, same_full_mode};
 pub use write::{write_data_mode, write_mode};
