@@ -4,7 +4,10 @@ pub mod ModeReads
 pub mod Modes
 pub mod Opening
 pub mod Prefixes
+pub mod ReadAt
 pub mod Records
 pub mod Right
+pub mod Spelled
 pub mod Stack
 pub mod Turning
+pub mod Within

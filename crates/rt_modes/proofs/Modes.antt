@@ -7,6 +7,21 @@ use Rattle.rt_modes.specs.declared.mode.Mode.TheVariants as mode
 use Rattle.rt_modes.specs.FullMode.{Word, Says, mode_words, between_commas, result_words}
 use Rattle.rt_modes.specs.Left.{parameters_inside}
 
+pub out_byte : (m : Mode) → m ≡ mode.Byte → out-Mode m ≡ Mode-F.Byte
+out_byte m e = ap out-Mode e ∙ search the_lemmas
+
+pub out_int : (m : Mode) → m ≡ mode.Int → out-Mode m ≡ Mode-F.Int
+out_int m e = ap out-Mode e ∙ search the_lemmas
+
+pub out_frac : (m : Mode) → m ≡ mode.Frac → out-Mode m ≡ Mode-F.Frac
+out_frac m e = ap out-Mode e ∙ search the_lemmas
+
+pub out_label : (m : Mode) → m ≡ mode.Label → out-Mode m ≡ Mode-F.Label
+out_label m e = ap out-Mode e ∙ search the_lemmas
+
+pub out_record : (m : Mode) (k : ℕ) → m ≡ mode.Record k → out-Mode m ≡ Mode-F.Record k
+out_record m k e = ap out-Mode e ∙ search the_lemmas
+
 pub out_ref : (m of : Mode) → m ≡ mode.Ref of → out-Mode m ≡ Mode-F.Ref of
 out_ref m of e = ap out-Mode e ∙ search the_lemmas
 

@@ -13,22 +13,22 @@ pub record Right {A : Type 0} (p : Reader A) (P : Format A) : Type 0 where
   pub refuses : (l : List ℕ) (n : ℕ) → p l ≡ Err n → P.Refuses l n
   pub refused : (l : List ℕ) (n : ℕ) → P.Refuses l n → p l ≡ Err n
 
-abbrev ok : {A : Type 0} → A × List ℕ → Outcome A
+abbrev pub ok : {A : Type 0} → A × List ℕ → Outcome A
 ok x = Ok x
 
-abbrev err : {A : Type 0} → ℕ → Outcome A
+abbrev pub err : {A : Type 0} → ℕ → Outcome A
 err n = Err n
 
 same_ok : {A : Type 0} (x y : A × List ℕ) → ok x ≡ ok y → x ≡ y
 same_ok x y e = cc
 
-same_err : {A : Type 0} (m n : ℕ) → err {A = A} m ≡ err n → m ≡ n
+pub same_err : {A : Type 0} (m n : ℕ) → err {A = A} m ≡ err n → m ≡ n
 same_err m n e = cc
 
-abbrev Read : {A : Type 0} → A → List ℕ → A → List ℕ → Type 0
+abbrev pub Read : {A : Type 0} → A → List ℕ → A → List ℕ → Type 0
 Read a l x r = (a ≡ x) × (l ≡ r)
 
-read_same : {A : Type 0} (a : A) (l : List ℕ) (x : A) (r : List ℕ) → ok (a, l) ≡ ok (x, r) → Read a l x r
+pub read_same : {A : Type 0} (a : A) (l : List ℕ) (x : A) (r : List ℕ) → ok (a, l) ≡ ok (x, r) → Read a l x r
 read_same a l x r e = let f = same_ok (a, l) (x, r) e in (ap (λ t. t.0) f, ap (λ t. t.1) f)
 
 pub right_nothing : {A : Type 0} (a : A) → Right (reads.nothing a) (format.nothing a)

@@ -33,6 +33,7 @@ pub fn read_mode(
     ensures found { IfOk result (λ x. StandsAt records bytes.now at x.0 x.1) }
     ensures only { (m : Mode) (p : _) → StandsAt records bytes.now at m p → (result ≡ Ok (m, p)) ⊎ (result ≡ Err fault.Memory) }
     ensures refused { IfErr result (Faults records bytes.now at) }
+    ensures place { (p : _) → RefusedAt records bytes.now at p → (result ≡ Err (fault.BadMode p)) ⊎ (result ≡ Err fault.Memory) }
 {
     match mode_of(alloc, records, LEVELS, Place::Alone, REFS, &bytes[at..]) {
         Ok((mode, rest)) => Ok((mode, bytes.len() - rest.len())),
