@@ -3,6 +3,7 @@ pub mod Levels
 pub mod ModeReads
 pub mod Modes
 pub mod Opening
+pub mod PartsLeft
 pub mod Prefixes
 pub mod ReadAt
 pub mod Records

@@ -73,34 +73,39 @@ made_array m x n e = made m (Mode-F.Array n x) (mode.Array n x) e (rolls-Array n
 made_proc : (m : Mode) (ps : List Mode) (r : Option Mode) → out-Mode m ≡ Mode-F.Proc ps r → mode.Proc ps r ≡ m
 made_proc m ps r e = made m (Mode-F.Proc ps r) (mode.Proc ps r) e (rolls-Proc ps r)
 
-spelled_byte : (m : Mode) → out-Mode m ≡ Mode-F.Byte → spelling m ≡ 1 ∷ []
+pub spelled_byte : (m : Mode) → out-Mode m ≡ Mode-F.Byte → spelling m ≡ 1 ∷ []
 spelled_byte m e = rw (fold_out-Mode, e) refl
 
-spelled_int : (m : Mode) → out-Mode m ≡ Mode-F.Int → spelling m ≡ 2 ∷ []
+pub spelled_int : (m : Mode) → out-Mode m ≡ Mode-F.Int → spelling m ≡ 2 ∷ []
 spelled_int m e = rw (fold_out-Mode, e) refl
 
-spelled_frac : (m : Mode) → out-Mode m ≡ Mode-F.Frac → spelling m ≡ 3 ∷ []
+pub spelled_frac : (m : Mode) → out-Mode m ≡ Mode-F.Frac → spelling m ≡ 3 ∷ []
 spelled_frac m e = rw (fold_out-Mode, e) refl
 
-spelled_label : (m : Mode) → out-Mode m ≡ Mode-F.Label → spelling m ≡ 8 ∷ []
+pub spelled_label : (m : Mode) → out-Mode m ≡ Mode-F.Label → spelling m ≡ 8 ∷ []
 spelled_label m e = rw (fold_out-Mode, e) refl
 
-spelled_record : (m : Mode) (k : ℕ) → out-Mode m ≡ Mode-F.Record k → spelling m ≡ 7 ∷ word_bytes k
+pub spelled_record : (m : Mode) (k : ℕ) → out-Mode m ≡ Mode-F.Record k → spelling m ≡ 7 ∷ word_bytes k
 spelled_record m k e = rw (fold_out-Mode, e) refl
 
-spelled_ref : (m x : Mode) → out-Mode m ≡ Mode-F.Ref x → spelling m ≡ 4 ∷ spelling x
+pub spelled_ref : (m x : Mode) → out-Mode m ≡ Mode-F.Ref x → spelling m ≡ 4 ∷ spelling x
 spelled_ref m x e = rw (fold_out-Mode, e) refl
 
-spelled_ref_array : (m x : Mode) → out-Mode m ≡ Mode-F.RefArray x → spelling m ≡ 5 ∷ spelling x
+pub spelled_ref_array : (m x : Mode) → out-Mode m ≡ Mode-F.RefArray x → spelling m ≡ 5 ∷ spelling x
 spelled_ref_array m x e = rw (fold_out-Mode, e) refl
 
-spelled_array : (m x : Mode) (n : ℕ) → out-Mode m ≡ Mode-F.Array n x → spelling m ≡ 6 ∷ (word_bytes n ++ spelling x)
+pub spelled_array : (m x : Mode) (n : ℕ) → out-Mode m ≡ Mode-F.Array n x → spelling m ≡ 6 ∷ (word_bytes n ++ spelling x)
 spelled_array m x n e = rw (fold_out-Mode, e) refl
 
-spelled_proc : (m : Mode) (ps : List Mode) (r : Option Mode) → out-Mode m ≡ Mode-F.Proc ps r
-    → spelling m ≡ 9 ∷ (length ps ∷ (joined (map spelling ps) ++ result_spelling (option_map spelling r)))
+pub spelled_proc : (m : Mode) (ps : List Mode) (r : Option Mode) → out-Mode m ≡ Mode-F.Proc ps r
+    → spelling m ≡ 9 ∷ (length ps % 256 ∷ (joined (map spelling ps) ++ result_spelling (option_map spelling r)))
 spelled_proc m ps None e = rw (fold_out-Mode, e, length-map) refl
 spelled_proc m ps (Some r) e = rw (fold_out-Mode, e, length-map) refl
+
+-- the number of parameters is the byte itself where there are few
+spelled_few : (m : Mode) (ps : List Mode) (r : Option Mode) → out-Mode m ≡ Mode-F.Proc ps r → length ps ≤ 32
+    → spelling m ≡ 9 ∷ (length ps ∷ (joined (map spelling ps) ++ result_spelling (option_map spelling r)))
+spelled_few m ps r e h = let f : length ps % 256 ≡ length ps = omega arith in spelled_proc m ps r e ∙ rw f refl
 
 -- ---- bytes
 
@@ -227,13 +232,13 @@ begins_else m r rest e = by (out-Mode m) refl
 
 -- ---- the spelling of PROC, put together from its parts
 
-proc_spelled : (m : Mode) (ps more : List Mode) (x : Option Mode) (l t u v r : List ℕ) (b count : ℕ) → out-Mode m ≡ Mode-F.Proc ps x → l ≡ b ∷ t → b ≡ count → t ≡ joined (map spelling more) ++ u
-    → u ≡ result_spelling (option_map spelling x) ++ v → v ≡ r → ps ≡ more → length more ≡ count → 9 ∷ l ≡ spelling m ++ r
-proc_spelled m ps more x l t u v r b count o e f g h i j k = rw (spelled_proc m ps x o, e, f, g, h, i, j, k)
-    (sym (ap (λ rest. 9 ∷ (count ∷ rest)) (append_assoc (joined (map spelling more)) (result_spelling (option_map spelling x)) r)))
-
 proc_few : (ps more : List Mode) (count : ℕ) → ps ≡ more → length more ≡ count → count ≤ 32 → length ps ≤ 32
 proc_few ps more count e f h = rw (e, f) h
+
+proc_spelled : (m : Mode) (ps more : List Mode) (x : Option Mode) (l t u v r : List ℕ) (b count : ℕ) → out-Mode m ≡ Mode-F.Proc ps x → l ≡ b ∷ t → b ≡ count → t ≡ joined (map spelling more) ++ u
+    → u ≡ result_spelling (option_map spelling x) ++ v → v ≡ r → ps ≡ more → length more ≡ count → length ps ≤ 32 → 9 ∷ l ≡ spelling m ++ r
+proc_spelled m ps more x l t u v r b count o e f g h i j k few = rw (spelled_few m ps x o few, e, f, g, h, i, j, k)
+    (sym (ap (λ rest. 9 ∷ (count ∷ rest)) (append_assoc (joined (map spelling more)) (result_spelling (option_map spelling x)) r)))
 
 -- ---- a mode, where the modes inside it are known
 
@@ -281,8 +286,9 @@ module _ (records : ℕ) (P : Place → ℕ → Format Mode) (S : Place → ℕ 
       let few = true_is (λ n. leb n 32) b count f in
       let q = times_there (P Passed 8) (S Passed 8) (there Passed 8) (back Passed 8) count [] t u ps (subst AreBytes e h).1 turns in
       let z = result_there (P Passed 8) (S Passed 8) (there Passed 8) (back Passed 8) u v x (bytes_after (joined (map spelling q.more)) u (subst AreBytes q.spelled (subst AreBytes e h).1)) result in
-      (proc_spelled m ps q.more x l t u v r b count o e few.0 q.spelled z.0 g q.all q.count,
-          rw o (opens may, proc_few ps q.more count q.all q.count (leb-true count 32 few.1), subst (AllByRecursion (S Passed 8)) (sym q.all) q.stand, z.1))
+      let small = proc_few ps q.more count q.all q.count (leb-true count 32 few.1) in
+      (proc_spelled m ps q.more x l t u v r b count o e few.0 q.spelled z.0 g q.all q.count small,
+          rw o (opens may, small, subst (AllByRecursion (S Passed 8)) (sym q.all) q.stand, z.1))
 
   mode_there : (l r : List ℕ) (m : Mode) → AreBytes l → (mode_of records P levels place refs).Fits l r m → (l ≡ spelling m ++ r) × Stands m
   mode_there l r m h (t, c, (b, e, f), fits) =
@@ -309,7 +315,7 @@ module _ (records : ℕ) (P : Place → ℕ → Format Mode) (S : Place → ℕ 
           (spelling x ++ r, n, word_back (λ n. leb 1 n && leb n 8191) (spelling x ++ r) n (length_back n k.2), (r, x, back Inside 8 r x k.3, (refl, made_array m x n o)))
       by (Mode-F.Record n) o k = behind_back code.Record m r (word_bytes n ++ r) (passed_not place k.0) (rw (spelled_record m n o) refl)
           (r, n, word_back (λ k. ltb k records) r n (lt-ltb n records k.1), (refl, made_record m n o))
-      by (Mode-F.Proc ps x) o k = behind_back code.Proc m r (length ps ∷ (joined (map spelling ps) ++ (result_spelling (option_map spelling x) ++ r))) (lt-ltb 0 levels k.0) (rw (spelled_proc m ps x o) (simp append_assoc))
+      by (Mode-F.Proc ps x) o k = behind_back code.Proc m r (length ps ∷ (joined (map spelling ps) ++ (result_spelling (option_map spelling x) ++ r))) (lt-ltb 0 levels k.0) (rw (spelled_few m ps x o k.1) (simp append_assoc))
           (joined (map spelling ps) ++ (result_spelling (option_map spelling x) ++ r), length ps, (length ps, refl, rw (le-leb (length ps) 32 k.1) refl),
           (result_spelling (option_map spelling x) ++ r, ps, times_back (P Passed 8) (S Passed 8) (there Passed 8) (back Passed 8) ps [] (result_spelling (option_map spelling x) ++ r) k.2,
           (r, x, result_back (P Passed 8) (S Passed 8) (there Passed 8) (back Passed 8) r x (λ y rest g e. begins_else y r rest e) k.3, (refl, made_proc m ps x o))))

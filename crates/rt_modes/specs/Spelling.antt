@@ -25,7 +25,8 @@ abbrev pub result_spelling : Option (List ℕ) → List ℕ
 result_spelling None = 0 ∷ []
 result_spelling (Some m) = m
 
--- one mode, with the spellings of the modes inside it
+-- One mode, with the spellings of the modes inside it. The number of parameters is a byte; where the mode may
+-- stand it is at most 32.
 abbrev pub one_spelling : Mode-F (List ℕ) → List ℕ
 one_spelling Mode-F.Byte = 1 ∷ []
 one_spelling Mode-F.Int = 2 ∷ []
@@ -35,7 +36,7 @@ one_spelling (Mode-F.RefArray m) = 5 ∷ m
 one_spelling (Mode-F.Array n m) = 6 ∷ (word_bytes n ++ m)
 one_spelling (Mode-F.Record k) = 7 ∷ word_bytes k
 one_spelling Mode-F.Label = 8 ∷ []
-one_spelling (Mode-F.Proc ps r) = 9 ∷ (length ps ∷ (joined ps ++ result_spelling r))
+one_spelling (Mode-F.Proc ps r) = 9 ∷ (length ps % 256 ∷ (joined ps ++ result_spelling r))
 
 abbrev pub spelling : Mode → List ℕ
 spelling = fold-Mode (List ℕ) one_spelling

@@ -8,10 +8,12 @@ mod mode;
 mod pieces;
 mod read;
 mod same;
+mod spell;
 mod write;
 
 pub use fault::ModeFault;
 pub use mode::{Field, Mode, ModeTable, RecordDef};
 pub use read::read_mode;
 pub use same::{same_data_mode, same_full_mode};
+pub use spell::spell_mode;
 pub use write::{write_data_mode, write_mode};
