@@ -8,7 +8,7 @@ use Rattle.std.proofs.Math.ListN.{drop_of_length-le}
 use Rattle.std.proofs.Math.Nat.{eq-or-lt_of_le}
 use Rattle.std.proofs.lemmas.Option.{slice_get_within, slice_get_cases, get_or_from_slice_get}
 use Rattle.rt_modes.specs.declared.mode.ModeTable.{ModeTable}
-use Rattle.rt_modes.specs.FullMode.{Word, Says, Mentions, joined, name_of, fields_of, fields_inside, definition, spelled, mentioned, with_new, reached, where_words, after_commas, full_text}
+use Rattle.rt_modes.specs.FullMode.{Word, Says, Mentions, joined, name_of, fields_of, fields_inside, definition, spelled, mentioned, with_new, reached, where_words, after_commas, reached_by, full_text}
 use Rattle.rt_modes.specs.Left.{lead, defined_from, words_left}
 use Rattle.rt_modes.proofs.Prefixes.{Begins, OnceBelow, begins_itself, nothing_begins, begins_on, no_shorter, same, get_again, take_again, few, begins_with_new, once_with_new, none_once, with_new-append}
 
@@ -169,14 +169,19 @@ module _ (t : ModeTable) (ws : List Word) where
     goes_on rest f = rw (here, sym f, spelled-append t (fields_inside (fields_of t k)) rest) (simp append_assoc)
 
   -- no record is at the place
-  ends : (known : List ℕ) (place : ℕ) → Known known place → None ≡ slice_get known place → [] ≡ texts t place (drop place all)
-  ends known place h e = elim (slice_get_cases known place).1 [
+  ended : (known : List ℕ) (place : ℕ) → Known known place → None ≡ slice_get known place → (length known ≤ place) × (all ≡ known) × (known ≡ round t ws known)
+  ended known place h e = elim (slice_get_cases known place).1 [
     | inl (x, inside, is, _) ↦ absurd (cc)
     | inr (past, _) ↦
         let closed : known ≡ round t ws known = h.is ∙ ap (round t ws) (take_all place known past) in
-        let last : all ≡ known = at_last t ws known (suc place) (suc count) closed h.reached (omega (arith, is_few known place h, h.within)) in
-        rw (last, drop_of_length-le known past) refl
+        (past, at_last t ws known (suc place) (suc count) closed h.reached (omega (arith, is_few known place h, h.within)), closed)
   ]
+
+  ends : (known : List ℕ) (place : ℕ) → Known known place → None ≡ slice_get known place → [] ≡ texts t place (drop place all)
+  ends known place h e = let f = ended known place h e in rw (f.1, drop_of_length-le known f.0) refl
+
+  last_round : (known : List ℕ) (place : ℕ) → Known known place → None ≡ slice_get known place → all ≡ round t ws all
+  last_round known place h e = let f = ended known place h e in rw (f.1) f.2
 
   step : (fuel : ℕ) (known : List ℕ) (place : ℕ) → Known known place → ((more : List ℕ) → Known more (place + 1) → spelled t (defined_from t fuel more (place + 1)) ≡ texts t (place + 1) (drop (place + 1) all))
       → (o : Option ℕ) → o ≡ slice_get known place → spelled t (defined_from t (suc fuel) known place) ≡ texts t place (drop place all)
@@ -197,3 +202,26 @@ module _ (t : ModeTable) (ws : List Word) where
   pub whole : spelled t (words_left t [] 0 ws) ≡ full_text t ws
   whole = rw (spelled-append t ws (defined_from t (2 ^ 64 + count - 0) (with_new [] (mentioned t ws)) 0), spelled-append t ws (where_words t all), sym (first_texts t all),
       written (2 ^ 64 + count - 0) (with_new [] (mentioned t ws)) 0 first_known (omega arith)) refl
+
+  -- what is known at the end is what the last round reaches, and one more round leaves it as it is
+  closed : (fuel : ℕ) (known : List ℕ) (place : ℕ) → Known known place → count < place + fuel → all ≡ round t ws all
+  closed zero known place h enough = absurd (omega (arith, is_few known place h, h.within))
+  closed (suc fuel) known place h enough = by (λ more g. closed fuel more (place + 1) g (omega arith)) (slice_get known place) refl
+    where
+      by : ((more : List ℕ) → Known more (place + 1) → all ≡ round t ws all) → (o : Option ℕ) → o ≡ slice_get known place → all ≡ round t ws all
+      by later None e = last_round known place h e
+      by later (Some k) e = later (more known place k h e) (next_known known place k h e)
+
+  pub all_closed : all ≡ round t ws all
+  all_closed = closed (suc count) (with_new [] (mentioned t ws)) 0 first_known (omega arith)
+
+mentions_of_commas : (t : ModeTable) (ks : List ℕ) → mentioned t (after_commas (map (definition t) ks)) ≡ mentioned t (joined (map (definition t) ks))
+mentions_of_commas t [] = refl
+mentions_of_commas t (k ∷ ks) = rw (mentioned-append t (definition t k) (after_commas (map (definition t) ks)), mentions_of_commas t ks, mentioned-append t (definition t k) (joined (map (definition t) ks))) refl
+
+mentions_of_where : (t : ModeTable) (ks : List ℕ) → mentioned t (where_words t ks) ≡ mentioned t (joined (map (definition t) ks))
+mentions_of_where t [] = refl
+mentions_of_where t (k ∷ ks) = mentions_of_commas t (k ∷ ks)
+
+pub define_mentioned : (t : ModeTable) (ws : List Word) → with_new [] (mentioned t (ws ++ where_words t (reached_by t ws))) ≡ reached_by t ws
+define_mentioned t ws = rw (mentioned-append t ws (where_words t (reached_by t ws)), mentions_of_where t (reached_by t ws), sym (mentioned-append t ws (joined (map (definition t) (reached_by t ws))))) (sym (all_closed t ws))

@@ -1,11 +1,11 @@
 -- What is read at a place of many bytes.
 use Rattle.std.proofs.Common.{◌≡◌, ℕ, zero, suc, ◌+◌, ◌-◌, ◌<◌, ◌≤◌, List, [], ◌∷◌, ◌++◌, length, take, drop, get_or, Result, Ok, Err, ◌⊎◌, inl, inr, Fits, w8, refl, sym, ap, subst, ◌∙◌, arith, append_assoc}
-use Rattle.std.proofs.lemmas.List.{length-append, length-drop, take_rest, take-append-drop, drop_at}
+use Rattle.std.proofs.lemmas.List.{length-append, length-drop, take_rest, take-append-drop, drop_at, append-nil}
 use Rattle.rt_modes.specs.declared.code.Place.TheVariants.{Alone}
 use Rattle.rt_modes.specs.declared.mode.Mode.{Mode}
 use Rattle.rt_modes.specs.Reading.{Outcome}
 use Rattle.rt_modes.specs.Reading as reads
-use Rattle.rt_modes.specs.Spelling.{mode_format, spelling, MayStand, StandsAt, RefusedAt}
+use Rattle.rt_modes.specs.Spelling.{mode_format, spelling, MayStand, IsMode, StandsAt, RefusedAt}
 use Rattle.rt_modes.proofs.ModeReads.{right_mode}
 use Rattle.rt_modes.proofs.Right.{ok, err, read_same, same_err}
 use Rattle.rt_modes.proofs.Spelled.{AreBytes, bytes_after, fits_stands, stands_fits}
@@ -71,3 +71,33 @@ module _ (records : ℕ) (bytes : List ℕ) (at : ℕ) (within : at ≤ length b
 
   pub not_stood : (n : ℕ) → read ≡ Err n → (m : Mode) (p : ℕ) → StandsAt records bytes at m p → ⊥
   not_stood n e m p h = let g : err n ≡ ok (m, drop p bytes) = sym e ∙ stood m p h in absurd cc
+
+-- ---- the laws
+
+pub never_both : (records : ℕ) (bytes : List ℕ) (at p q : ℕ) (m : Mode) → at ≤ length bytes → StandsAt records bytes at m p → RefusedAt records bytes at q → ⊥
+never_both records bytes at p q m within s r = not_refused records bytes at within m (drop p bytes) (stood records bytes at within m p s) q r
+
+pub stand_or_refused : (records : ℕ) (bytes : List ℕ) (at : ℕ) → AreBytes bytes → at ≤ length bytes → ((m : Mode) × (p : ℕ) × StandsAt records bytes at m p) ⊎ ((p : ℕ) × RefusedAt records bytes at p)
+stand_or_refused records bytes at h within = by (read records bytes at within) refl
+  where
+    by : (o : Outcome Mode) → read records bytes at within ≡ o → ((m : Mode) × (p : ℕ) × StandsAt records bytes at m p) ⊎ ((p : ℕ) × RefusedAt records bytes at p)
+    by (Ok x) e = inl (x.0, length bytes - length x.1, found records bytes at within h x.0 x.1 e)
+    by (Err n) e = inr (length bytes - n, refused records bytes at within n e)
+
+pub read_back : (records : ℕ) (before rest : List ℕ) (m : Mode) → MayStand records m → StandsAt records (before ++ (spelling m ++ rest)) (length before) m (length before + length (spelling m))
+read_back records before rest m h =
+    let e : length before + length (spelling m) ≡ length (before ++ spelling m) = sym (length-append before (spelling m)) in
+    let size : length (before ++ (spelling m ++ rest)) ≡ length before + (length (spelling m) + length rest) = length-append before (spelling m ++ rest) ∙ ap (λ k. length before + k) (length-append (spelling m) rest) in
+    let f : drop (length before) (before ++ (spelling m ++ rest)) ≡ spelling m ++ rest = drop_at before (spelling m ++ rest) (length before) refl in
+    let g : drop (length before + length (spelling m)) (before ++ (spelling m ++ rest)) ≡ rest =
+        subst (λ t. drop (length before + length (spelling m)) t ≡ rest) (append_assoc before (spelling m) rest) (drop_at (before ++ spelling m) rest (length before + length (spelling m)) (sym e)) in
+    record { within = omega arith; spelled = rw g f; stands = h }
+
+-- the two readings of bytes that begin with the one spelling and are the other
+pub one_spelling : (records : ℕ) (bytes rest : List ℕ) (m n : Mode) → IsMode records bytes m → IsMode records (bytes ++ rest) n → (rest ≡ []) × (m ≡ n)
+one_spelling records bytes rest m n a b =
+    let one = (right_mode records).complete (spelling m ++ rest) rest m (stands_fits records rest m a.stands) in
+    let two = (right_mode records).complete (spelling n ++ []) [] n (stands_fits records [] n b.stands) in
+    let same : spelling n ++ [] ≡ spelling m ++ rest = append-nil (spelling n) ∙ sym b.spelled ∙ ap (λ t. t ++ rest) a.spelled in
+    let g = read_same m rest n [] (sym one ∙ rw (sym same) two) in
+    (g.1, g.0)

@@ -108,10 +108,13 @@ abbrev pub where_words : ModeTable → List ℕ → List Word
 where_words t [] = []
 where_words t (k ∷ ks) = Says (codes " WHERE ") ∷ (definition t k ++ after_commas (map (definition t) ks))
 
--- The text of words with the records that they reach. There is a round for each record of the table, and
--- one more: further rounds would add nothing.
+-- There is a round for each record of the table, and one more: further rounds would add nothing.
+abbrev pub reached_by : ModeTable → List Word → List ℕ
+reached_by t ws = reached t ws (suc (length t.records))
+
+-- the text of words, with the definitions of the records that they reach
 abbrev pub full_text : ModeTable → List Word → List ℕ
-full_text t ws = spelled t (ws ++ where_words t (reached t ws (suc (length t.records))))
+full_text t ws = spelled t (ws ++ where_words t (reached_by t ws))
 
 -- the full mode of a mode
 abbrev pub FullMode : ModeTable → Mode → List ℕ

@@ -1,5 +1,6 @@
 pub mod Fields
 pub mod FullMode
+pub mod Laws
 pub mod Left
 pub mod Parts
 pub mod Reading

@@ -4,6 +4,7 @@
 mod code;
 mod fault;
 mod fields;
+mod laws;
 mod mode;
 mod pieces;
 mod read;
@@ -12,6 +13,7 @@ mod spell;
 mod write;
 
 pub use fault::ModeFault;
+pub use laws::{full_modes_define_what_they_mention, one_spelling};
 pub use mode::{Field, Mode, ModeTable, RecordDef};
 pub use read::read_mode;
 pub use same::{same_data_mode, same_full_mode};
