@@ -200,8 +200,12 @@ module _ (t : ModeTable) (ws : List Word) where
 
   -- the words that are left at the beginning have the text of the full mode
   pub whole : spelled t (words_left t [] 0 ws) ≡ full_text t ws
-  whole = rw (spelled-append t ws (defined_from t (2 ^ 64 + count - 0) (with_new [] (mentioned t ws)) 0), spelled-append t ws (where_words t all), sym (first_texts t all),
-      written (2 ^ 64 + count - 0) (with_new [] (mentioned t ws)) 0 first_known (omega arith)) refl
+  whole = rw (
+    spelled-append t ws (defined_from t (2 ^ 64 + count - 0) (with_new [] (mentioned t ws)) 0),
+    spelled-append t ws (where_words t all),
+    sym (first_texts t all),
+    written (2 ^ 64 + count - 0) (with_new [] (mentioned t ws)) 0 first_known (omega arith),
+  ) refl
 
   -- what is known at the end is what the last round reaches, and one more round leaves it as it is
   closed : (fuel : ℕ) (known : List ℕ) (place : ℕ) → Known known place → count < place + fuel → all ≡ round t ws all

@@ -90,7 +90,7 @@ read_back records before rest m h =
     let size : length (before ++ (spelling m ++ rest)) ≡ length before + (length (spelling m) + length rest) = length-append before (spelling m ++ rest) ∙ ap (λ k. length before + k) (length-append (spelling m) rest) in
     let f : drop (length before) (before ++ (spelling m ++ rest)) ≡ spelling m ++ rest = drop_at before (spelling m ++ rest) (length before) refl in
     let g : drop (length before + length (spelling m)) (before ++ (spelling m ++ rest)) ≡ rest =
-        subst (λ t. drop (length before + length (spelling m)) t ≡ rest) (append_assoc before (spelling m) rest) (drop_at (before ++ spelling m) rest (length before + length (spelling m)) (sym e)) in
+    subst (λ t. drop (length before + length (spelling m)) t ≡ rest) (append_assoc before (spelling m) rest) (drop_at (before ++ spelling m) rest (length before + length (spelling m)) (sym e)) in
     record { within = omega arith; spelled = rw g f; stands = h }
 
 -- the two readings of bytes that begin with the one spelling and are the other

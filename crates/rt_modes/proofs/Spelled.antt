@@ -286,9 +286,10 @@ module _ (records : ℕ) (P : Place → ℕ → Format Mode) (S : Place → ℕ 
       let few = true_is (λ n. leb n 32) b count f in
       let q = times_there (P Passed 8) (S Passed 8) (there Passed 8) (back Passed 8) count [] t u ps (subst AreBytes e h).1 turns in
       let z = result_there (P Passed 8) (S Passed 8) (there Passed 8) (back Passed 8) u v x (bytes_after (joined (map spelling q.more)) u (subst AreBytes q.spelled (subst AreBytes e h).1)) result in
-      let small = proc_few ps q.more count q.all q.count (leb-true count 32 few.1) in
-      (proc_spelled m ps q.more x l t u v r b count o e few.0 q.spelled z.0 g q.all q.count small,
-          rw o (opens may, small, subst (AllByRecursion (S Passed 8)) (sym q.all) q.stand, z.1))
+      let small = proc_few ps q.more count q.all q.count (leb-true count 32 few.1) in (
+        proc_spelled m ps q.more x l t u v r b count o e few.0 q.spelled z.0 g q.all q.count small,
+        rw o (opens may, small, subst (AllByRecursion (S Passed 8)) (sym q.all) q.stand, z.1),
+      )
 
   mode_there : (l r : List ℕ) (m : Mode) → AreBytes l → (mode_of records P levels place refs).Fits l r m → (l ≡ spelling m ++ r) × Stands m
   mode_there l r m h (t, c, (b, e, f), fits) =
@@ -315,10 +316,17 @@ module _ (records : ℕ) (P : Place → ℕ → Format Mode) (S : Place → ℕ 
           (spelling x ++ r, n, word_back (λ n. leb 1 n && leb n 8191) (spelling x ++ r) n (length_back n k.2), (r, x, back Inside 8 r x k.3, (refl, made_array m x n o)))
       by (Mode-F.Record n) o k = behind_back code.Record m r (word_bytes n ++ r) (passed_not place k.0) (rw (spelled_record m n o) refl)
           (r, n, word_back (λ k. ltb k records) r n (lt-ltb n records k.1), (refl, made_record m n o))
-      by (Mode-F.Proc ps x) o k = behind_back code.Proc m r (length ps ∷ (joined (map spelling ps) ++ (result_spelling (option_map spelling x) ++ r))) (lt-ltb 0 levels k.0) (rw (spelled_few m ps x o k.1) (simp append_assoc))
-          (joined (map spelling ps) ++ (result_spelling (option_map spelling x) ++ r), length ps, (length ps, refl, rw (le-leb (length ps) 32 k.1) refl),
-          (result_spelling (option_map spelling x) ++ r, ps, times_back (P Passed 8) (S Passed 8) (there Passed 8) (back Passed 8) ps [] (result_spelling (option_map spelling x) ++ r) k.2,
-          (r, x, result_back (P Passed 8) (S Passed 8) (there Passed 8) (back Passed 8) r x (λ y rest g e. begins_else y r rest e) k.3, (refl, made_proc m ps x o))))
+      by (Mode-F.Proc ps x) o k = behind_back code.Proc m r (length ps ∷ (joined (map spelling ps) ++ (result_spelling (option_map spelling x) ++ r))) (lt-ltb 0 levels k.0) (rw (spelled_few m ps x o k.1) (simp append_assoc)) (
+        joined (map spelling ps) ++ (result_spelling (option_map spelling x) ++ r),
+        length ps,
+        (length ps, refl, rw (le-leb (length ps) 32 k.1) refl),
+        (
+          result_spelling (option_map spelling x) ++ r,
+          ps,
+          times_back (P Passed 8) (S Passed 8) (there Passed 8) (back Passed 8) ps [] (result_spelling (option_map spelling x) ++ r) k.2,
+          (r, x, result_back (P Passed 8) (S Passed 8) (there Passed 8) (back Passed 8) r x (λ y rest g e. begins_else y r rest e) k.3, (refl, made_proc m ps x o)),
+        ),
+      )
 
 -- ---- every level
 

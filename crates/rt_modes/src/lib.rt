@@ -10,6 +10,8 @@ mod pieces;
 mod read;
 mod same;
 mod spell;
+#[cfg(test)]
+mod tests;
 mod write;
 
 pub use fault::ModeFault;

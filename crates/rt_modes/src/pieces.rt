@@ -52,11 +52,7 @@ impl<'t> Pieces<'t> {
     }
 
     /// The full mode of what is to come first.
-    pub fn of(
-        alloc: Global,
-        table: &'t ModeTable,
-        first: Todo<'t>,
-    ) -> Result<Pieces<'t>, Memory>
+    pub fn of(alloc: Global, table: &'t ModeTable, first: Todo<'t>) -> Result<Pieces<'t>, Memory>
         ensures { IfOk result (λ p. text_of p ≡ full_text table.now (todo_words first.entry)) }
     {
         let mut pieces = Pieces::new(alloc, table)?;
@@ -71,7 +67,9 @@ impl<'t> Pieces<'t> {
     {
         match self.todo.pop() {
             Some(Todo::Mode(mode)) => self.begin_mode(mode, piece)?,
-            Some(Todo::Parameters(rest, answer)) => self.go_on_with_parameters(rest, answer, piece)?,
+            Some(Todo::Parameters(rest, answer)) => self.go_on_with_parameters(
+                rest, answer, piece,
+            )?,
             Some(Todo::Name(name)) => {
                 piece.extend_from_slice(b" ")?;
                 piece.extend_from_slice(name.as_slice())?;

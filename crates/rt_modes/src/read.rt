@@ -125,12 +125,7 @@ fn behind(
 /// The length of an array, and the mode of an element.
 #[cycle(mode)]
 #[tactic(auto)]
-fn array(
-    alloc: Global,
-    records: u16,
-    levels: usize,
-    bytes: &[u8],
-) -> Result<(Mode, &[u8]), Stop>
+fn array(alloc: Global, records: u16, levels: usize, bytes: &[u8]) -> Result<(Mode, &[u8]), Stop>
     ensures { Gives (λ x. (x.0, x.1.now)) result (reads.array (reads.inside records levels) bytes.now) }
 {
     let (length, rest) = length(bytes)?;
@@ -155,11 +150,7 @@ fn procedure(
     Ok((proc_of(alloc, found, answer)?, rest))
 }
 
-fn proc_of(
-    alloc: Global,
-    parameters: List<Mode>,
-    answer: Option<Mode>,
-) -> Result<Mode, Memory>
+fn proc_of(alloc: Global, parameters: List<Mode>, answer: Option<Mode>) -> Result<Mode, Memory>
     ensures { IfOk result (λ m. m ≡ Mode.Proc parameters answer) }
 {
     match answer {

@@ -22,7 +22,10 @@ pub fn same_full_mode(
 {
     let left = Pieces::of(alloc, left_table, Todo::Mode(left))?;
     let right = Pieces::of(alloc, right_table, Todo::Mode(right))?;
-    same_text(&mut Reader::new(alloc, left), &mut Reader::new(alloc, right))
+    same_text(
+        &mut Reader::new(alloc, left),
+        &mut Reader::new(alloc, right),
+    )
 }
 
 /// Whether two data bricks have the same full mode, as `same_full_mode` says it of modes.
@@ -37,7 +40,10 @@ pub fn same_data_mode(
 {
     let left = Pieces::of(alloc, left_table, Todo::Data(left))?;
     let right = Pieces::of(alloc, right_table, Todo::Data(right))?;
-    same_text(&mut Reader::new(alloc, left), &mut Reader::new(alloc, right))
+    same_text(
+        &mut Reader::new(alloc, left),
+        &mut Reader::new(alloc, right),
+    )
 }
 
 fn same_text(left: &mut Reader<'_>, right: &mut Reader<'_>) -> Result<bool, Memory>

@@ -34,11 +34,7 @@ pub fn spell_mode(alloc: Global, mode: &Mode, out: &mut Text) -> Result<(), Memo
 }
 
 /// The first fields of a part; what is left of it is put on the parts.
-fn spell_part<'t>(
-    part: Part<'t>,
-    parts: &mut List<Part<'t>>,
-    out: &mut Text,
-) -> Result<(), Memory>
+fn spell_part<'t>(part: Part<'t>, parts: &mut List<Part<'t>>, out: &mut Text) -> Result<(), Memory>
     ensures ok { OnOk result (Adds (part_spelling part.entry) parts.old parts.new out.old.items out.new.items) }
     ensures err { OnErr result (out.new.items ≡ out.old.items) }
 {
@@ -49,11 +45,7 @@ fn spell_part<'t>(
 }
 
 /// The fields of a mode itself; the modes inside it are put on the parts.
-fn spell_head<'t>(
-    mode: &'t Mode,
-    parts: &mut List<Part<'t>>,
-    out: &mut Text,
-) -> Result<(), Memory>
+fn spell_head<'t>(mode: &'t Mode, parts: &mut List<Part<'t>>, out: &mut Text) -> Result<(), Memory>
     ensures ok { OnOk result (Adds (spelling mode.now) parts.old parts.new out.old.items out.new.items) }
     ensures err { OnErr result (out.new.items ≡ out.old.items) }
 {
