@@ -1,5 +1,5 @@
 -- The reader of a mode is right for the format of a mode.
-use Rattle.std.proofs.Common.{◌≡◌, ℕ, zero, suc, ◌-◌, List, [], Option}
+use Rattle.std.proofs.Common.{ℕ, zero, suc, ◌-◌, []}
 use Rattle.rt_modes.specs.declared.code.Code.{Code}
 use Rattle.rt_modes.specs.declared.code.Code.TheVariants as code
 use Rattle.rt_modes.specs.declared.code.Place.{Place}

@@ -1,10 +1,10 @@
 -- The words of a mode, by the mode that it is.
-use Rattle.std.proofs.Common.{◌≡◌, ℕ, List, ◌∷◌, ◌++◌, Option, None, Some, map, option_map, codes, decimal, refl, ap, ◌∙◌}
+use Rattle.std.proofs.Common.{◌≡◌, ℕ, List, ◌∷◌, ◌++◌, Option, None, Some, codes, decimal, refl, ap, ◌∙◌}
 use Rattle.rt_modes.specs.declared.mode.Mode.{Mode, out-Mode, the_lemmas}
-use Rattle.rt_modes.specs.declared.mode.Mode.TheFolds.{fold-Mode, fold_out-Mode}
+use Rattle.rt_modes.specs.declared.mode.Mode.TheFolds.{fold_out-Mode}
 use Rattle.rt_modes.specs.declared.mode.Mode.TheOpen.{Mode-F}
 use Rattle.rt_modes.specs.declared.mode.Mode.TheVariants as mode
-use Rattle.rt_modes.specs.FullMode.{Word, Says, mode_words, between_commas, result_words}
+use Rattle.rt_modes.specs.FullMode.{Says, mode_words}
 use Rattle.rt_modes.specs.Left.{parameters_inside}
 
 pub out_byte : (m : Mode) → m ≡ mode.Byte → out-Mode m ≡ Mode-F.Byte

@@ -1,5 +1,5 @@
 -- A text at its beginning.
-use Rattle.std.proofs.Common.{◌≡◌, ℕ, List, [], ◌++◌, Result, Ok, Err, OnErr, refl}
+use Rattle.std.proofs.Common.{◌≡◌, ℕ, List, Result, Ok, Err, OnErr, refl}
 use Rattle.std.proofs.lemmas.List.{append-nil}
 use Rattle.rt_modes.specs.declared.mode.ModeTable.{ModeTable}
 use Rattle.rt_modes.specs.declared.pieces.Pieces.{Pieces}

@@ -1,9 +1,9 @@
 -- The definitions that are still to come.
-use Rattle.std.proofs.Common.{◌≡◌, ℕ, zero, suc, ◌+◌, ◌-◌, ◌^◌, ◌<◌, List, [], ◌∷◌, ◌++◌, Option, Some, None, codes, append_assoc, length, refl, ap, sym, ◌∙◌, arith}
+use Rattle.std.proofs.Common.{◌≡◌, ℕ, zero, suc, ◌+◌, ◌-◌, ◌^◌, ◌<◌, List, [], ◌∷◌, ◌++◌, Some, None, codes, append_assoc, length, refl, sym, arith}
 use Rattle.rt_modes.specs.declared.mode.Field.{Field}
 use Rattle.std.specs.List.{slice_get}
 use Rattle.rt_modes.specs.declared.mode.ModeTable.{ModeTable}
-use Rattle.rt_modes.specs.FullMode.{Word, Says, spelled, name_of, fields_of, fields_inside, mentioned, with_new}
+use Rattle.rt_modes.specs.FullMode.{Word, Says, name_of, fields_of, fields_inside, mentioned, with_new}
 use Rattle.rt_modes.specs.Left.{words_left, lead, defined_from, Puts}
 
 no_more : (t : ModeTable) (fuel : ℕ) (known : List ℕ) (place : ℕ) → None ≡ slice_get known place → defined_from t fuel known place ≡ []

@@ -1,5 +1,5 @@
 -- What fits the format of a mode is the spelling of a mode that may stand.
-use Rattle.std.proofs.Common.{◌≡◌, ℕ, zero, suc, ◌+◌, ◌-◌, ◌*◌, ◌/◌, ◌%◌, ◌<◌, ◌≤◌, Bool, true, false, if◌then◌else◌, ◌&&◌, eqb, ltb, leb, List, [], ◌∷◌, ◌++◌, length, map, Option, Some, None, IfSome, ◌⊎◌, inl, inr, refl, sym, ap, subst, ◌∙◌, arith, append_assoc}
+use Rattle.std.proofs.Common.{◌≡◌, ℕ, zero, suc, ◌+◌, ◌-◌, ◌*◌, ◌/◌, ◌%◌, ◌<◌, ◌≤◌, Bool, true, false, if◌then◌else◌, ◌&&◌, ltb, leb, List, [], ◌∷◌, ◌++◌, length, map, Option, Some, None, IfSome, inl, inr, refl, sym, ap, subst, ◌∙◌, arith, append_assoc}
 use Rattle.std.specs.List.{AllByRecursion}
 use Rattle.std.specs.Option.{option_map}
 use Rattle.std.proofs.lemmas.List.{length-map, append-nil}
@@ -9,14 +9,14 @@ use Rattle.rt_modes.specs.declared.code.Code.{Code}
 use Rattle.rt_modes.specs.declared.code.Code.TheVariants as code
 use Rattle.rt_modes.specs.declared.code.Place.{Place}
 use Rattle.rt_modes.specs.declared.code.Place.TheVariants.{Alone, Inside, Passed}
-use Rattle.rt_modes.specs.declared.mode.Mode.{Mode, out-Mode, roll-Mode, roll-out-Mode, the_lemmas}
+use Rattle.rt_modes.specs.declared.mode.Mode.{Mode, out-Mode, roll-Mode, roll-out-Mode}
 use Rattle.rt_modes.specs.declared.mode.Mode.TheOpen.{Mode-F}
-use Rattle.rt_modes.specs.declared.mode.Mode.TheFolds.{fold-Mode, fold_out-Mode}
+use Rattle.rt_modes.specs.declared.mode.Mode.TheFolds.{fold_out-Mode}
 use Rattle.rt_modes.specs.declared.mode.Mode.TheVariants as mode
 use Rattle.rt_modes.specs.declared.mode.Mode.TheVariants.{rolls-Byte, rolls-Int, rolls-Frac, rolls-Label, rolls-Ref, rolls-RefArray, rolls-Array, rolls-Record, rolls-Proc}
 use Rattle.rt_modes.specs.FullMode.{joined}
 use Rattle.rt_modes.proofs.Modes.{out_byte, out_int, out_frac, out_label, out_record, out_ref, out_ref_array, out_array, out_proc}
-use Rattle.rt_modes.specs.Fields.{Format, byte, word, times, or_zero}
+use Rattle.rt_modes.specs.Fields.{Format, word, times, or_zero}
 use Rattle.rt_modes.specs.Spelling.{MayStand, mode_format, mode_of, inside, StandsInside, OneMayStand, IsLength, behind, where_true, where_may, is_alone, is_not_passed, spelling, code_of, code_at, may_stand, result_spelling, word_bytes}
 
 abbrev code_byte : Code → ℕ

@@ -1,10 +1,10 @@
 -- The words of the parts that are still to come.
-use Rattle.std.proofs.Common.{◌≡◌, ℕ, ◌+◌, List, [], ◌∷◌, ◌++◌, length, Option, Some, None, map, option_map, codes, refl, ap, sym, ◌∙◌, arith, append_assoc}
+use Rattle.std.proofs.Common.{◌≡◌, ℕ, List, [], ◌∷◌, ◌++◌, length, Option, Some, codes, refl, sym, ◌∙◌, arith, append_assoc}
 use Rattle.std.proofs.lemmas.List.{append-nil}
 use Rattle.rt_modes.specs.declared.mode.Mode.{Mode}
 use Rattle.rt_modes.specs.declared.mode.Field.{Field}
 use Rattle.rt_modes.specs.declared.mode.ModeTable.{ModeTable}
-use Rattle.rt_modes.specs.FullMode.{Word, Says, spelled, mode_words, between_commas, after_commas, field_words, result_words, fields_inside}
+use Rattle.rt_modes.specs.FullMode.{Word, Says, mode_words, fields_inside}
 use Rattle.rt_modes.specs.Left.{todo_words, stacked, words_left, Puts, parameters_inside, parameters_after, fields_after}
 use Rattle.rt_modes.specs.declared.pieces.Todo.{Todo}
 

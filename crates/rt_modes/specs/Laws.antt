@@ -1,5 +1,5 @@
 -- Laws of full modes and of spellings.
-use Rattle.std.specs.Prelude.{◌≡◌, ℕ, suc, ◌+◌, ◌<◌, ◌≤◌, ◌⊎◌, List, [], ◌++◌, length}
+use Rattle.std.specs.Prelude.{◌≡◌, ℕ, ◌+◌, ◌<◌, ◌≤◌, ◌⊎◌, List, [], ◌++◌, length}
 use Rattle.std.specs.List.{AllByRecursion}
 use Rattle.rt_modes.specs.declared.mode.Mode.{Mode}
 use Rattle.rt_modes.specs.declared.mode.ModeTable.{ModeTable}

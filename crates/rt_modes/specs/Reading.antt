@@ -4,7 +4,7 @@ use Rattle.std.specs.Prelude.{◌≡◌, ℕ, zero, suc, ◌+◌, ◌-◌, ◌*�
 use Rattle.rt_modes.specs.declared.code.Code.{Code}
 use Rattle.rt_modes.specs.declared.code.Code.TheVariants as code
 use Rattle.rt_modes.specs.declared.code.Place.{Place}
-use Rattle.rt_modes.specs.declared.code.Place.TheVariants.{Alone, Inside, Passed}
+use Rattle.rt_modes.specs.declared.code.Place.TheVariants.{Inside, Passed}
 use Rattle.rt_modes.specs.declared.fields.Stop.{Stop}
 use Rattle.rt_modes.specs.declared.fields.Stop.TheVariants as stop
 use Rattle.rt_modes.specs.declared.mode.Mode.{Mode}

@@ -1,4 +1,4 @@
-use Rattle.std.proofs.Common.{◌≡◌, inl, inr, refl}
+use Rattle.std.proofs.Common.{inl, refl}
 use Rattle.rt_modes.proofs.ReadAt.{fit_bytes, rest_short, field_short, found, refused, same_mode, not_refused, same_field, not_stood}
 use Rattle.rt_modes.proofs.read.read_mode.Goals as goal
 

@@ -1,4 +1,4 @@
-use Rattle.std.proofs.Common.{◌≡◌, refl}
+use Rattle.std.proofs.Common.{refl}
 use Rattle.rt_modes.proofs.PartsLeft.{with_first}
 use Rattle.rt_modes.proofs.spell.spell_behind.Goals as goal
 

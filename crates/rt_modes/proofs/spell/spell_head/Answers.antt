@@ -1,4 +1,4 @@
-use Rattle.std.proofs.Common.{◌≡◌, [], ◌∷◌, refl, arith}
+use Rattle.std.proofs.Common.{[], ◌∷◌, refl, arith}
 use Rattle.rt_modes.specs.Parts.{parts_after}
 use Rattle.rt_modes.specs.Spelling.{spelling}
 use Rattle.rt_modes.proofs.PartsLeft.{one_more, adds, label, number, ref, ref_array, array, procedure}

@@ -1,4 +1,4 @@
-use Rattle.std.proofs.Common.{◌≡◌, refl}
+use Rattle.std.proofs.Common.{refl}
 use Rattle.rt_modes.proofs.Modes.{words_ref, words_ref_array, words_array, words_proc}
 use Rattle.rt_modes.proofs.Stack.{one_more, begins, says}
 use Rattle.rt_modes.proofs.pieces.Pieces.begin_mode.Goals as goal

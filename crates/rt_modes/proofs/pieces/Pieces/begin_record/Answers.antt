@@ -1,6 +1,5 @@
-use Rattle.std.proofs.Common.{◌≡◌, refl, sym, arith, ◌∙◌, ◌+◌, append_assoc}
+use Rattle.std.proofs.Common.{refl, ◌∙◌}
 use Rattle.std.proofs.lemmas.List.{append-nil}
-use Rattle.rt_modes.specs.Left.{words_left, stacked}
 use Rattle.rt_modes.proofs.Records.{none_left, begins}
 use Rattle.rt_modes.proofs.pieces.Pieces.begin_record.Goals as goal
 

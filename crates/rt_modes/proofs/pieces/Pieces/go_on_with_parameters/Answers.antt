@@ -1,4 +1,4 @@
-use Rattle.std.proofs.Common.{◌≡◌, refl, arith}
+use Rattle.std.proofs.Common.{arith}
 use Rattle.std.proofs.lemmas.Bool.Decides.{nat_tests}
 use Rattle.rt_modes.proofs.Stack.{one_more, begins, last_parameter}
 use Rattle.rt_modes.proofs.pieces.Pieces.go_on_with_parameters.Goals as goal

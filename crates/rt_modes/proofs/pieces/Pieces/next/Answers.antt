@@ -1,4 +1,4 @@
-use Rattle.std.proofs.Common.{◌≡◌, refl, append_assoc}
+use Rattle.std.proofs.Common.{refl, append_assoc}
 use Rattle.rt_modes.specs.Left.{stacked}
 use Rattle.rt_modes.proofs.Stack.{one_more, says}
 use Rattle.rt_modes.proofs.pieces.Pieces.next.Goals as goal

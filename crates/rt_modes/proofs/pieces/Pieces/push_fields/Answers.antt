@@ -1,4 +1,4 @@
-use Rattle.std.proofs.Common.{◌≡◌, ap, ◌∙◌, ◌++◌, refl, append_assoc}
+use Rattle.std.proofs.Common.{ap, ◌∙◌, ◌++◌, refl, append_assoc}
 use Rattle.rt_modes.specs.Left.{words_left, stacked}
 use Rattle.rt_modes.proofs.Stack.{one_more, three_more, no_fields, first_field}
 use Rattle.rt_modes.proofs.pieces.Pieces.push_fields.Goals as goal
