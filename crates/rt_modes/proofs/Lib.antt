@@ -1,0 +1,14 @@
+pub mod Closing
+pub mod Levels
+pub mod ModeReads
+pub mod Modes
+pub mod Opening
+pub mod PartsLeft
+pub mod Prefixes
+pub mod ReadAt
+pub mod Records
+pub mod Right
+pub mod Spelled
+pub mod Stack
+pub mod Turning
+pub mod Within

@@ -1,0 +1,7 @@
+pub mod Fields
+pub mod FullMode
+pub mod Laws
+pub mod Left
+pub mod Parts
+pub mod Reading
+pub mod Spelling

@@ -1,0 +1,23 @@
+//! Modes, the full mode as a text, and the spelling of a mode in an object.
+#![tactic(auto)]
+
+mod code;
+mod fault;
+mod fields;
+mod laws;
+mod mode;
+mod pieces;
+mod read;
+mod same;
+mod spell;
+#[cfg(test)]
+mod tests;
+mod write;
+
+pub use fault::ModeFault;
+pub use laws::{full_modes_define_what_they_mention, one_spelling};
+pub use mode::{Field, Mode, ModeTable, RecordDef};
+pub use read::read_mode;
+pub use same::{same_data_mode, same_full_mode};
+pub use spell::spell_mode;
+pub use write::{write_data_mode, write_mode};
