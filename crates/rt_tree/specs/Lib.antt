@@ -1,0 +1,9 @@
+pub mod Code
+pub mod Depth
+pub mod Modules
+pub mod Scopes
+pub mod Statements
+pub mod Tree
+pub mod Typing
+pub mod Weights
+pub mod Within

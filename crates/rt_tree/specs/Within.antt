@@ -1,0 +1,47 @@
+-- The modules whose procedures stay within what the code of a procedure may take.
+use Rattle.std.specs.Prelude.{ℕ, ◌*◌, ◌<◌, ◌≤◌, length, Option, Some, None}
+use Rattle.std.specs.List.{AllByRecursion}
+use Rattle.rt_modes.specs.declared.mode.Mode.{Mode, out-Mode}
+use Rattle.rt_tree.specs.declared.brick.BrickSort.{BrickSort}
+use Rattle.rt_tree.specs.declared.brick.BrickSort.TheVariants as sort
+use Rattle.rt_tree.specs.declared.brick.ModuleParts.{ModuleParts}
+use Rattle.rt_tree.specs.declared.brick.ProcBody.{ProcBody}
+use Rattle.rt_tree.specs.Depth.{sequence_depth, local_words}
+use Rattle.rt_tree.specs.Modules.{scope_of, with_locals}
+use Rattle.rt_tree.specs.Statements.{body_tree}
+use Rattle.rt_tree.specs.Tree.{Seq}
+use Rattle.rt_tree.specs.Typing.{Signature, signature_by}
+use Rattle.rt_tree.specs.Weights.{sequence_weight}
+
+-- The plain tree of a procedure of a module.
+abbrev pub tree_of : ModuleParts → ProcBody → Seq
+tree_of p b = body_tree (with_locals (scope_of p) b.locals) b.body
+
+-- the number of parameters of a procedure
+abbrev pub parameters_by : Option Signature → ℕ
+parameters_by None = 0
+parameters_by (Some s) = length s.parameters
+
+abbrev pub parameters_of : Mode → ℕ
+parameters_of m = parameters_by (signature_by (out-Mode m))
+
+-- A procedure with so many parameters, of one word each. Behind the words of its nodes there are 16 for its beginning
+-- and its end. A node of w words makes at most 2 w unmarked instructions, those of the support code among them.
+pub record ProcWithin (p : ModuleParts) (count : ℕ) (b : ProcBody) : Type 0 where
+  pub parameters : count < 65536
+  pub locals : local_words count b (tree_of p b) < 65536
+  pub depth : sequence_depth (tree_of p b) < 65536
+  pub words : sequence_weight (tree_of p b) ≤ 12 * b.items
+
+abbrev pub BodyWithin : ModuleParts → ℕ → Option ProcBody → Type 0
+BodyWithin p parameters None = Unit {0}
+BodyWithin p parameters (Some b) = ProcWithin p parameters b
+
+abbrev pub SortWithin : ModuleParts → BrickSort → Type 0
+SortWithin p (sort.Proc m body) = BodyWithin p (parameters_of m) body
+SortWithin p (sort.Data fs ss) = Unit {0}
+SortWithin p (sort.Stack n) = Unit {0}
+
+-- every own or ENT procedure is within
+abbrev pub Within : ModuleParts → Type 0
+Within p = AllByRecursion (λ b. SortWithin p b.sort) p.bricks

@@ -1,0 +1,13 @@
+//! The visible steps of a task.
+
+/// A kind of visible step. An error is one that ends the task, with its number.
+#[derive(Clone, Copy, Debug, PartialEq, Eq)]
+pub enum Step {
+    Read,
+    Write,
+    Call,
+    Return,
+    Service,
+    Jump,
+    Error(u16),
+}
