@@ -1,0 +1,10 @@
+pub mod Levels
+pub mod Joins
+pub mod Trees
+pub mod Counting
+pub mod Complete
+pub mod Sound
+pub mod Judged
+pub mod Others
+pub mod Same
+pub mod Following

@@ -1,0 +1,169 @@
+-- The source run: the tasks over one store, by the supervisor's rules, each tick after a stated number of steps.
+use Rattle.std.specs.Prelude.{ℕ, zero, suc, ◌+◌, ◌-◌, ◌^◌, ◌≤◌, ◌==◌, if◌then◌else◌, min, List, [], ◌∷◌, ◌++◌, map, Option, Some, None, slice_get, slice_set}
+use Rattle.std.specs.List.{AllByRecursion}
+use Rattle.rt_tree.specs.declared.step.Step.{Step}
+use Rattle.rt_rules.specs.declared.service.Svc.TheVariants as svc
+use Rattle.rt_rules.specs.declared.service.Outcome.{Outcome}
+use Rattle.rt_rules.specs.declared.service.Outcome.TheVariants.{Go, Waits, Error, Ends}
+use Rattle.rt_rules.specs.Rules as rules
+use Rattle.rt_rules.specs.Roster.{Roster}
+use Rattle.rt_meaning.specs.declared.request.Request.{Request}
+use Rattle.rt_meaning.specs.declared.request.Request.TheVariants.{Nothing, Takes, Puts, Rules}
+use Rattle.rt_tree.specs.declared.store.Proc.{Proc}
+use Rattle.rt_meaning.specs.Stores.{Store, first_own}
+use Rattle.rt_meaning.specs.Step.{World, Task, Over, After, request, task_step, about_to}
+
+-- the tasks 1, 2 and so on, the store, the supervisor's rules, and how many bytes of the console were taken
+pub record State : Type 0 where
+  pub rules : Roster
+  pub store : Store
+  pub tasks : List Task
+  pub taken : ℕ
+
+-- ---- services
+
+-- what came of a request: the rules and the bytes taken then, the outcome, and the byte that was put out
+pub record Served : Type 0 where
+  pub rules : Roster
+  pub taken : ℕ
+  pub outcome : Outcome
+  pub byte : Option ℕ
+
+-- the count of bytes taken stays at 2^64 - 1 once it is there
+abbrev pub one_more : ℕ → ℕ
+one_more n = min (n + 1) (2 ^ 64 - 1)
+
+-- RRIN's service gives the next byte, or 4 where none is left
+abbrev pub take : Roster → ℕ → Option ℕ → Served
+take r n None = record { rules = r; taken = n; outcome = Go 4; byte = None }
+take r n (Some b) = record { rules = r; taken = one_more n; outcome = Go b; byte = None }
+
+abbrev pub by_rules : ℕ → rules.Served → Served
+by_rules n (r, o) = record { rules = r; taken = n; outcome = o; byte = None }
+
+-- a request of task i, where `input` is the next byte of the console
+abbrev pub serve : Roster → ℕ → ℕ → Option ℕ → Request → Served
+serve r n i input Nothing = record { rules = r; taken = n; outcome = Go 0; byte = None }
+serve r n i input Takes = take r n input
+serve r n i input (Puts b) = record { rules = r; taken = n; outcome = Go 0; byte = Some b }
+serve r n i input (Rules service) = by_rules n (rules.serve r i service)
+
+-- ---- one step, one tick
+
+-- what a step of a task leaves: the rules and the bytes taken, the store, the task, the step, and the byte put out
+pub record Moved : Type 0 where
+  pub rules : Roster
+  pub taken : ℕ
+  pub store : Store
+  pub task : Task
+  pub step : Step
+  pub byte : Option ℕ
+
+abbrev pub moved_by : Served → After → Moved
+moved_by s a = record { rules = s.rules; taken = s.taken; store = a.store; task = a.task; step = a.step; byte = s.byte }
+
+abbrev pub moved_after : World → Task → Store → Served → Moved
+moved_after w t S s = moved_by s (task_step w t S s.outcome)
+
+-- the next visible step of task i, which runs and is t
+abbrev pub moved : World → Task → Store → Roster → ℕ → ℕ → Option ℕ → Moved
+moved w t S r taken i input = moved_after w t S (serve r taken i input (request w t))
+
+abbrev pub task_in : Option Task → Task
+task_in None = Over
+task_in (Some t) = t
+
+abbrev pub task_at : List Task → ℕ → Task
+task_at ts i = task_in (slice_get ts (i - 1))
+
+-- what a step leaves: the state, its kind, and the byte that it puts out
+pub record Stepped : Type 0 where
+  pub state : State
+  pub step : Step
+  pub byte : Option ℕ
+
+abbrev pub stepped_by : List Task → ℕ → Moved → Stepped
+stepped_by ts i m = record {
+  state = record { rules = m.rules; store = m.store; tasks = slice_set ts (i - 1) m.task; taken = m.taken };
+  step = m.step;
+  byte = m.byte;
+}
+
+-- the next visible step of task i, which runs
+abbrev pub stepped : World → State → ℕ → Option ℕ → Stepped
+stepped w s i input = stepped_by s.tasks i (moved w (task_at s.tasks i) s.store s.rules s.taken i input)
+
+-- the step of the running task, where one runs
+abbrev pub step_by : World → State → Option ℕ → Option ℕ → Option Stepped
+step_by w s None input = None
+step_by w s (Some i) input = Some (stepped w s i input)
+
+abbrev pub one_step : World → State → Option ℕ → Option Stepped
+one_step w s input = step_by w s (rules.running s.rules) input
+
+-- one tick of the rules
+abbrev pub tick : State → State
+tick s = record { rules = rules.tick s.rules; store = s.store; tasks = s.tasks; taken = s.taken }
+
+-- ---- the start
+
+-- a task is about to call its root, with its own supplied data
+abbrev pub task_of : Proc → Task
+task_of f = about_to f first_own
+
+abbrev pub tasks_of : List Proc → List Task
+tasks_of fs = map task_of fs
+
+abbrev pub start : Store → List Proc → List ℕ → State
+start S roots priorities = record { rules = rules.start priorities; store = S; tasks = tasks_of roots; taken = 0 }
+
+-- ---- the run
+
+-- a state, and all that was put out up to it
+pub record Reached : Type 0 where
+  pub state : State
+  pub output : List ℕ
+
+abbrev pub bytes_of : Option ℕ → List ℕ
+bytes_of None = []
+bytes_of (Some b) = b ∷ []
+
+abbrev pub reached_by : List ℕ → Option Stepped → Option Reached
+reached_by output None = None
+reached_by output (Some after) = Some (record { state = after.state; output = output ++ bytes_of after.byte })
+
+-- one step; the next byte of the console is the one behind those that were taken
+abbrev pub then_step : World → List ℕ → Option Reached → Option Reached
+then_step w input None = None
+then_step w input (Some r) = reached_by r.output (one_step w r.state (slice_get input r.state.taken))
+
+abbrev pub ticks : ℕ → State → State
+ticks zero s = s
+ticks (suc n) s = tick (ticks n s)
+
+abbrev pub then_ticks : ℕ → Option Reached → Option Reached
+then_ticks n None = None
+then_ticks n (Some r) = Some (record { state = ticks n r.state; output = r.output })
+
+-- how many ticks fall after s steps
+abbrev pub ticks_after : List ℕ → ℕ → ℕ
+ticks_after [] s = 0
+ticks_after (p ∷ ps) s = if p == s then suc (ticks_after ps s) else ticks_after ps s
+
+-- The state after n steps, with the ticks that fall after 0, 1, .., n of them, and what was put out. It is there where before
+-- each of the steps some task is ready.
+abbrev pub source_run : World → State → List ℕ → List ℕ → ℕ → Option Reached
+source_run w begin placements input zero =
+    then_ticks (ticks_after placements 0) (Some (record { state = begin; output = [] }))
+source_run w begin placements input (suc n) =
+    then_ticks (ticks_after placements (suc n)) (then_step w input (source_run w begin placements input n))
+
+-- placements that never fall
+abbrev pub NeverFalls : List ℕ → Type 0
+NeverFalls [] = Unit {0}
+NeverFalls (p ∷ ps) = AllByRecursion (λ q. p ≤ q) ps × NeverFalls ps
+
+-- the placements of ticks in a run of n steps
+pub record ArePlacements (placements : List ℕ) (n : ℕ) : Type 0 where
+  pub never_falls : NeverFalls placements
+  pub within : AllByRecursion (λ p. p ≤ n) placements

@@ -1,0 +1,13 @@
+//! What the tasks of a system have in common.
+
+use crate::kept::KeptRules;
+use crate::store::ModuleStore;
+use rt_words::List;
+
+/// The rules, the store, and the number of bytes of the console that were taken.
+#[derive(Debug, Drop)]
+pub struct Common {
+    pub rules: KeptRules,
+    pub store: List<ModuleStore>,
+    pub taken: u64,
+}

@@ -1,0 +1,13 @@
+// Laws of the visible steps. Each function does nothing: its contract is the law.
+ghost use Rattle.rt_meaning.specs.Laws as law;
+
+/// What comes of a service has no effect where the step is no service.
+pub fn answers_serve()
+    ensures { law.AnswersServe }
+{}
+
+/// A step looks at one location at most, and changes one at most.
+pub fn steps_access_one_location()
+    ensures reads { law.ReadsOne }
+    ensures writes { law.WritesOne }
+{}
