@@ -11,122 +11,122 @@ const SERVICES: [Row; 24] = [
     (
         Some(Svc::Wait(0)),
         Some(Outcome::Error(5)),
-        "R.0 R.1 R.2 R.3 |0|4",
+        "r.0 r.1 r.2 r.3 |0|4",
     ),
     (
         Some(Svc::Wait(33)),
         Some(Outcome::Error(5)),
-        "R.0 R.1 R.2 R.3 |0|4",
+        "r.0 r.1 r.2 r.3 |0|4",
     ),
     (
         Some(Svc::Signal(0)),
         Some(Outcome::Error(5)),
-        "R.0 R.1 R.2 R.3 |0|4",
+        "r.0 r.1 r.2 r.3 |0|4",
     ),
     (
         Some(Svc::Signal(33)),
         Some(Outcome::Error(5)),
-        "R.0 R.1 R.2 R.3 |0|4",
+        "r.0 r.1 r.2 r.3 |0|4",
     ),
     (
         Some(Svc::Signal(65535)),
         Some(Outcome::Error(5)),
-        "R.0 R.1 R.2 R.3 |0|4",
+        "r.0 r.1 r.2 r.3 |0|4",
     ),
     (
         Some(Svc::Signal(1)),
         Some(Outcome::Go(0)),
-        "R.0 R.1 R.2 R.3 +1 |0|4",
+        "r.0 r.1 r.2 r.3 +1 |0|4",
     ),
     (
         Some(Svc::Signal(1)),
         Some(Outcome::Go(0)),
-        "R.0 R.1 R.2 R.3 +1 |0|4",
+        "r.0 r.1 r.2 r.3 +1 |0|4",
     ),
     (
         Some(Svc::Wait(1)),
         Some(Outcome::Go(0)),
-        "R.0 R.1 R.2 R.3 |0|4",
+        "r.0 r.1 r.2 r.3 |0|4",
     ),
     (
         Some(Svc::Signal(32)),
         Some(Outcome::Go(0)),
-        "R.0 R.1 R.2 R.3 +32 |0|4",
+        "r.0 r.1 r.2 r.3 +32 |0|4",
     ),
     (
         Some(Svc::Wait(32)),
         Some(Outcome::Go(0)),
-        "R.0 R.1 R.2 R.3 |0|4",
+        "r.0 r.1 r.2 r.3 |0|4",
     ),
     (
         Some(Svc::TaskNo),
         Some(Outcome::Go(1)),
-        "R.0 R.1 R.2 R.3 |0|4",
+        "r.0 r.1 r.2 r.3 |0|4",
     ),
     (
         Some(Svc::Clock),
         Some(Outcome::Go(0)),
-        "R.0 R.1 R.2 R.3 |0|4",
+        "r.0 r.1 r.2 r.3 |0|4",
     ),
     (
         Some(Svc::Wait(1)),
         Some(Outcome::Waits),
-        "E1.4 R.1 R.2 R.3 |0|5",
+        "e1.4 r.1 r.2 r.3 |0|5",
     ),
     (
         Some(Svc::Wait(1)),
         Some(Outcome::Waits),
-        "E1.4 E1.5 R.2 R.3 |0|6",
+        "e1.4 e1.5 r.2 r.3 |0|6",
     ),
     (
         Some(Svc::Wait(1)),
         Some(Outcome::Waits),
-        "E1.4 E1.5 E1.6 R.3 |0|7",
+        "e1.4 e1.5 e1.6 r.3 |0|7",
     ),
     (
         Some(Svc::Signal(1)),
         Some(Outcome::Go(0)),
-        "R.7 E1.5 E1.6 R.3 |0|8",
+        "r.7 e1.5 e1.6 r.3 |0|8",
     ),
     (
         Some(Svc::TaskNo),
         Some(Outcome::Go(1)),
-        "R.7 E1.5 E1.6 R.3 |0|8",
+        "r.7 e1.5 e1.6 r.3 |0|8",
     ),
     (
         Some(Svc::Wait(1)),
         Some(Outcome::Waits),
-        "E1.8 E1.5 E1.6 R.3 |0|9",
+        "e1.8 e1.5 e1.6 r.3 |0|9",
     ),
     (
         Some(Svc::Signal(1)),
         Some(Outcome::Go(0)),
-        "R.9 E1.5 E1.6 R.3 |0|10",
+        "r.9 e1.5 e1.6 r.3 |0|10",
     ),
     (
         Some(Svc::Delay(2)),
         Some(Outcome::Waits),
-        "D2.10 E1.5 E1.6 R.3 |0|11",
+        "d2.10 e1.5 e1.6 r.3 |0|11",
     ),
     (
         Some(Svc::Signal(1)),
         Some(Outcome::Go(0)),
-        "D2.10 R.11 E1.6 R.3 |0|12",
+        "d2.10 r.11 e1.6 r.3 |0|12",
     ),
     (
         Some(Svc::Wait(2)),
         Some(Outcome::Waits),
-        "D2.10 E2.12 E1.6 R.3 |0|13",
+        "d2.10 e2.12 e1.6 r.3 |0|13",
     ),
     (
         Some(Svc::Signal(1)),
         Some(Outcome::Go(0)),
-        "D2.10 E2.12 R.13 R.3 |0|14",
+        "d2.10 e2.12 r.13 r.3 |0|14",
     ),
     (
         Some(Svc::Signal(1)),
         Some(Outcome::Go(0)),
-        "D2.10 E2.12 R.13 R.3 +1 |0|14",
+        "d2.10 e2.12 r.13 r.3 +1 |0|14",
     ),
 ];
 
@@ -135,160 +135,160 @@ const FACILITIES: [Row; 24] = [
     (
         Some(Svc::Secure(0)),
         Some(Outcome::Error(5)),
-        "R.0 R.1 R.2 |0|3",
+        "r.0 r.1 r.2 |0|3",
     ),
     (
         Some(Svc::Secure(33)),
         Some(Outcome::Error(5)),
-        "R.0 R.1 R.2 |0|3",
+        "r.0 r.1 r.2 |0|3",
     ),
     (
         Some(Svc::Secure(65535)),
         Some(Outcome::Error(5)),
-        "R.0 R.1 R.2 |0|3",
+        "r.0 r.1 r.2 |0|3",
     ),
     (
         Some(Svc::Release(0)),
         Some(Outcome::Error(5)),
-        "R.0 R.1 R.2 |0|3",
+        "r.0 r.1 r.2 |0|3",
     ),
     (
         Some(Svc::Release(33)),
         Some(Outcome::Error(5)),
-        "R.0 R.1 R.2 |0|3",
+        "r.0 r.1 r.2 |0|3",
     ),
     (
         Some(Svc::Release(1)),
         Some(Outcome::Error(4)),
-        "R.0 R.1 R.2 |0|3",
+        "r.0 r.1 r.2 |0|3",
     ),
     (
         Some(Svc::Secure(1)),
         Some(Outcome::Go(0)),
-        "R.0 R.1 R.2 1=1 |0|3",
+        "r.0 r.1 r.2 1=1 |0|3",
     ),
     (
         Some(Svc::Secure(1)),
         Some(Outcome::Error(4)),
-        "R.0 R.1 R.2 1=1 |0|3",
+        "r.0 r.1 r.2 1=1 |0|3",
     ),
     (
         Some(Svc::Secure(32)),
         Some(Outcome::Go(0)),
-        "R.0 R.1 R.2 1=1 32=1 |0|3",
+        "r.0 r.1 r.2 1=1 32=1 |0|3",
     ),
     (
         Some(Svc::Release(32)),
         Some(Outcome::Go(0)),
-        "R.0 R.1 R.2 1=1 |0|3",
+        "r.0 r.1 r.2 1=1 |0|3",
     ),
     (
         Some(Svc::Delay(1)),
         Some(Outcome::Waits),
-        "D1.3 R.1 R.2 1=1 |0|4",
+        "d1.3 r.1 r.2 1=1 |0|4",
     ),
     (
         Some(Svc::Release(1)),
         Some(Outcome::Error(4)),
-        "D1.3 R.1 R.2 1=1 |0|4",
+        "d1.3 r.1 r.2 1=1 |0|4",
     ),
     (
         Some(Svc::Secure(1)),
         Some(Outcome::Waits),
-        "D1.3 F1.4 R.2 1=1 |0|5",
+        "d1.3 f1.4 r.2 1=1 |0|5",
     ),
     (
         Some(Svc::Secure(1)),
         Some(Outcome::Waits),
-        "D1.3 F1.4 F1.5 1=1 |0|6",
+        "d1.3 f1.4 f1.5 1=1 |0|6",
     ),
-    (None, None, "R.6 F1.4 F1.5 1=1 |1|7"),
+    (None, None, "r.6 f1.4 f1.5 1=1 |1|7"),
     (
         Some(Svc::Release(1)),
         Some(Outcome::Go(0)),
-        "R.6 R.7 F1.5 1=2 |1|8",
+        "r.6 r.7 f1.5 1=2 |1|8",
     ),
     (
         Some(Svc::Secure(1)),
         Some(Outcome::Waits),
-        "F1.8 R.7 F1.5 1=2 |1|9",
+        "f1.8 r.7 f1.5 1=2 |1|9",
     ),
     (
         Some(Svc::Release(1)),
         Some(Outcome::Go(0)),
-        "R.9 R.7 F1.5 1=1 |1|10",
+        "r.9 r.7 f1.5 1=1 |1|10",
     ),
     (
         Some(Svc::TaskNo),
         Some(Outcome::Go(1)),
-        "R.9 R.7 F1.5 1=1 |1|10",
+        "r.9 r.7 f1.5 1=1 |1|10",
     ),
     (
         Some(Svc::Release(1)),
         Some(Outcome::Go(0)),
-        "R.9 R.7 R.10 1=3 |1|11",
+        "r.9 r.7 r.10 1=3 |1|11",
     ),
     (
         Some(Svc::Delay(0)),
         Some(Outcome::Go(0)),
-        "R.11 R.7 R.10 1=3 |1|12",
+        "r.11 r.7 r.10 1=3 |1|12",
     ),
     (
         Some(Svc::Delay(32768)),
         Some(Outcome::Go(0)),
-        "R.12 R.7 R.10 1=3 |1|13",
+        "r.12 r.7 r.10 1=3 |1|13",
     ),
     (
         Some(Svc::Delay(65535)),
         Some(Outcome::Go(0)),
-        "R.13 R.7 R.10 1=3 |1|14",
+        "r.13 r.7 r.10 1=3 |1|14",
     ),
     (
         Some(Svc::Delay(32767)),
         Some(Outcome::Waits),
-        "D32767.14 R.7 R.10 1=3 |1|15",
+        "d32767.14 r.7 r.10 1=3 |1|15",
     ),
 ];
 
 // Priorities 10, 10, 20.
 const TICKS: [Row; 14] = [
-    (None, None, "R.3 R.1 R.2 |1|4"),
-    (Some(Svc::TaskNo), Some(Outcome::Go(2)), "R.3 R.1 R.2 |1|4"),
-    (None, None, "R.3 R.4 R.2 |2|5"),
-    (Some(Svc::TaskNo), Some(Outcome::Go(1)), "R.3 R.4 R.2 |2|5"),
+    (None, None, "r.3 r.1 r.2 |1|4"),
+    (Some(Svc::TaskNo), Some(Outcome::Go(2)), "r.3 r.1 r.2 |1|4"),
+    (None, None, "r.3 r.4 r.2 |2|5"),
+    (Some(Svc::TaskNo), Some(Outcome::Go(1)), "r.3 r.4 r.2 |2|5"),
     (
         Some(Svc::Delay(1)),
         Some(Outcome::Waits),
-        "D1.5 R.4 R.2 |2|6",
+        "d1.5 r.4 r.2 |2|6",
     ),
-    (None, None, "R.7 R.6 R.2 |3|8"),
+    (None, None, "r.7 r.6 r.2 |3|8"),
     (
         Some(Svc::Delay(3)),
         Some(Outcome::Waits),
-        "R.7 D3.8 R.2 |3|9",
+        "r.7 d3.8 r.2 |3|9",
     ),
     (
         Some(Svc::Delay(3)),
         Some(Outcome::Waits),
-        "D3.9 D3.8 R.2 |3|10",
+        "d3.9 d3.8 r.2 |3|10",
     ),
-    (None, None, "D2.9 D2.8 R.10 |4|11"),
+    (None, None, "d2.9 d2.8 r.10 |4|11"),
     (
         Some(Svc::Delay(2)),
         Some(Outcome::Waits),
-        "D2.9 D2.8 D2.11 |4|12",
+        "d2.9 d2.8 d2.11 |4|12",
     ),
-    (None, None, "D1.9 D1.8 D1.11 |5|12"),
-    (None, None, "R.12 R.13 R.14 |6|15"),
+    (None, None, "d1.9 d1.8 d1.11 |5|12"),
+    (None, None, "r.12 r.13 r.14 |6|15"),
     (
         Some(Svc::TaskNo),
         Some(Outcome::Go(1)),
-        "R.12 R.13 R.14 |6|15",
+        "r.12 r.13 r.14 |6|15",
     ),
     (
         Some(Svc::Clock),
         Some(Outcome::Go(6)),
-        "R.12 R.13 R.14 |6|15",
+        "r.12 r.13 r.14 |6|15",
     ),
 ];
 
@@ -297,68 +297,68 @@ const ENDINGS: [Row; 16] = [
     (
         Some(Svc::Delay(1)),
         Some(Outcome::Waits),
-        "R.0 R.1 R.2 D1.4 |0|5",
+        "r.0 r.1 r.2 d1.4 |0|5",
     ),
     (
         Some(Svc::Delay(1)),
         Some(Outcome::Waits),
-        "R.0 D1.5 R.2 D1.4 |0|6",
+        "r.0 d1.5 r.2 d1.4 |0|6",
     ),
     (
         Some(Svc::Delay(1)),
         Some(Outcome::Waits),
-        "R.0 D1.5 D1.6 D1.4 |0|7",
+        "r.0 d1.5 d1.6 d1.4 |0|7",
     ),
     (
         Some(Svc::Secure(3)),
         Some(Outcome::Go(0)),
-        "R.0 D1.5 D1.6 D1.4 3=1 |0|7",
+        "r.0 d1.5 d1.6 d1.4 3=1 |0|7",
     ),
     (
         Some(Svc::Secure(2)),
         Some(Outcome::Go(0)),
-        "R.0 D1.5 D1.6 D1.4 2=1 3=1 |0|7",
+        "r.0 d1.5 d1.6 d1.4 2=1 3=1 |0|7",
     ),
     (
         Some(Svc::Secure(1)),
         Some(Outcome::Go(0)),
-        "R.0 D1.5 D1.6 D1.4 1=1 2=1 3=1 |0|7",
+        "r.0 d1.5 d1.6 d1.4 1=1 2=1 3=1 |0|7",
     ),
-    (None, None, "R.7 R.8 R.9 R.10 1=1 2=1 3=1 |1|11"),
+    (None, None, "r.7 r.8 r.9 r.10 1=1 2=1 3=1 |1|11"),
     (
         Some(Svc::Secure(2)),
         Some(Outcome::Waits),
-        "R.7 R.8 R.9 F2.11 1=1 2=1 3=1 |1|12",
+        "r.7 r.8 r.9 f2.11 1=1 2=1 3=1 |1|12",
     ),
     (
         Some(Svc::Secure(1)),
         Some(Outcome::Waits),
-        "R.7 F1.12 R.9 F2.11 1=1 2=1 3=1 |1|13",
+        "r.7 f1.12 r.9 f2.11 1=1 2=1 3=1 |1|13",
     ),
     (
         Some(Svc::Secure(1)),
         Some(Outcome::Waits),
-        "R.7 F1.12 F1.13 F2.11 1=1 2=1 3=1 |1|14",
+        "r.7 f1.12 f1.13 f2.11 1=1 2=1 3=1 |1|14",
     ),
     (
         Some(Svc::Gel(77)),
         Some(Outcome::Ends),
-        "X77.7 R.14 F1.13 R.15 1=2 2=4 |1|16",
+        "X77.7 r.14 f1.13 r.15 1=2 2=4 |1|16",
     ),
     (
         Some(Svc::TaskNo),
         Some(Outcome::Go(4)),
-        "X77.7 R.14 F1.13 R.15 1=2 2=4 |1|16",
+        "X77.7 r.14 f1.13 r.15 1=2 2=4 |1|16",
     ),
     (
         Some(Svc::End),
         Some(Outcome::Ends),
-        "X77.7 R.14 F1.13 X.15 1=2 |1|16",
+        "X77.7 r.14 f1.13 X.15 1=2 |1|16",
     ),
     (
         Some(Svc::End),
         Some(Outcome::Ends),
-        "X77.7 X.14 R.16 X.15 1=3 |1|17",
+        "X77.7 X.14 r.16 X.15 1=3 |1|17",
     ),
     (
         Some(Svc::End),
@@ -396,10 +396,10 @@ fn shown(alloc: Global, rules: &Rules) -> Result<String, Fail> {
 
 fn state_shown(alloc: Global, state: State) -> Result<String, Fail> {
     Ok(match state {
-        State::Ready => format!(in alloc; "R")?,
-        State::Delayed(ticks) => format!(in alloc; "D{ticks}")?,
-        State::Event(event) => format!(in alloc; "E{event}")?,
-        State::Facility(facility) => format!(in alloc; "F{facility}")?,
+        State::Ready => format!(in alloc; "r")?,
+        State::Delayed(ticks) => format!(in alloc; "d{ticks}")?,
+        State::Event(event) => format!(in alloc; "e{event}")?,
+        State::Facility(facility) => format!(in alloc; "f{facility}")?,
         State::Ended => format!(in alloc; "X")?,
         State::Failed(error) => format!(in alloc; "X{error}")?,
     })
@@ -449,7 +449,7 @@ fn facility_errors(rt: HostRuntime) -> Result<(), Fail> {
         next(&mut rules, Some(Svc::Release(1))),
         Some(Outcome::Error(4))
     );
-    assert_eq!(rt; shown(rt.alloc(), &rules)?.as_str(), "R.0 R.1 |0|2");
+    assert_eq!(rt; shown(rt.alloc(), &rules)?.as_str(), "r.0 r.1 |0|2");
     Ok(())
 }
 

@@ -4,6 +4,7 @@ ghost use Rattle.std.specs.Option.{option_copied};
 use crate::memory::Memory;
 use std::alloc::Global;
 use std::marker::Model;
+use std::mem;
 
 /// A list of `T` that contracts see as its elements alone, so that two lists of the same elements are
 /// equal. It may stand in a type that leads back to itself. Where a promise that a push takes no memory
@@ -73,6 +74,17 @@ impl<T> List<T> {
         ensures within { OnSome result (at < length self.now) }
     {
         self.items.get(at)
+    }
+
+    /// Takes the elements out and leaves an empty list; it takes no memory.
+    pub fn take(&mut self) -> List<T>
+        ensures taken { result ≡ self.old }
+        ensures left { self.new ≡ [] }
+    {
+        let alloc = *self.items.allocator();
+        List {
+            items: mem::replace(&mut self.items, Vec::new(alloc)),
+        }
     }
 
     /// Takes the last element off.

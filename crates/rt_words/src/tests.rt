@@ -45,6 +45,8 @@ fn lists_hold_what_is_pushed(rt: HostRuntime) -> Result<(), Fail> {
     assert_eq!(rt; list.as_slice(), [1u16, 9, 1].as_slice());
     assert_eq!(rt; list.pop(), Some(1));
     assert_eq!(rt; list.len(), 2);
+    assert_eq!(rt; list.take().as_slice(), [1u16, 9].as_slice());
+    assert_eq!(rt; list.len(), 0);
     let mut bytes = Bytes::new(alloc, 3)?;
     bytes.push(7)?;
     assert_eq!(rt; bytes.copy(alloc)?.as_slice(), [7u8].as_slice());
