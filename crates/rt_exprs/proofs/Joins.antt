@@ -3,7 +3,7 @@ use Rattle.std.proofs.Common.{◌≡◌, ℕ, ◌==◌, ◌&&◌, ◌||◌, Bool
 use Rattle.std.proofs.lemmas.Bool.Decides.{nat_tests}
 use Rattle.std.specs.Prelude.{◌<◌, nat_lt, nat_le, if◌then◌else◌}
 use Rattle.rt_exprs.specs.declared.fault.CheckFault.{CheckFault}
-use Rattle.rt_exprs.specs.declared.fault.CheckFault.TheVariants.{Memory, UnknownName, WrongMode, NotAssignable, WrongCount, RefOfLocal, LeftOut}
+use Rattle.rt_exprs.specs.declared.fault.CheckFault.TheVariants.{Memory, UnknownName, WrongMode, NotAssignable, WrongCount, RefOfLocal, LeftOut, DeclaredTwice, BadStart, UnknownLabel, NoResult}
 use Rattle.rt_exprs.specs.Outcomes.{Outcome, Gives, both, after, earlier, sooner, is_before, item_of, number_of, UnlessMemory}
 
 pub given : (f : CheckFault) (P : Type 0) → P → UnlessMemory f P
@@ -14,6 +14,10 @@ given (NotAssignable at) P h = h
 given (WrongCount at) P h = h
 given (RefOfLocal at) P h = h
 given (LeftOut form at) P h = h
+given (DeclaredTwice at) P h = h
+given (BadStart at) P h = h
+given (UnknownLabel at) P h = h
+given (NoResult at) P h = h
 
 pub told : (f : CheckFault) (P : Type 0) → UnlessMemory f P → (f ≡ Memory) ⊎ P
 told Memory P h = inl refl
@@ -23,6 +27,10 @@ told (NotAssignable at) P h = inr h
 told (WrongCount at) P h = inr h
 told (RefOfLocal at) P h = inr h
 told (LeftOut form at) P h = inr h
+told (DeclaredTwice at) P h = inr h
+told (BadStart at) P h = inr h
+told (UnknownLabel at) P h = inr h
+told (NoResult at) P h = inr h
 
 -- want of memory goes before every fault
 before_memory : (n k : ℕ) → 0 < k → (nat_lt n 0 || (n == 0 && nat_le k 0)) ≡ false
@@ -45,6 +53,10 @@ counts (NotAssignable at) = inr (lit< tt)
 counts (WrongCount at) = inr (lit< tt)
 counts (RefOfLocal at) = inr (lit< tt)
 counts (LeftOut form at) = inr (lit< tt)
+counts (DeclaredTwice at) = inr (lit< tt)
+counts (BadStart at) = inr (lit< tt)
+counts (UnknownLabel at) = inr (lit< tt)
+counts (NoResult at) = inr (lit< tt)
 
 sooner_right : (f : CheckFault) → sooner f Memory ≡ Memory
 sooner_right f = elim (counts f) [

@@ -4,7 +4,7 @@ use Rattle.std.specs.Prelude.{IfOk, IfErr, IsTrue}
 use Rattle.rt_expression.specs.declared.tree.Expr.{Expr}
 use Rattle.rt_tree.specs.declared.value.Value.{Value}
 use Rattle.rt_exprs.specs.declared.fault.CheckFault.{CheckFault}
-use Rattle.rt_exprs.specs.declared.fault.CheckFault.TheVariants.{Memory, UnknownName, WrongMode, NotAssignable, WrongCount, RefOfLocal, LeftOut}
+use Rattle.rt_exprs.specs.declared.fault.CheckFault.TheVariants.{Memory, UnknownName, WrongMode, NotAssignable, WrongCount, RefOfLocal, LeftOut, DeclaredTwice, BadStart, UnknownLabel, NoResult}
 use Rattle.rt_exprs.specs.declared.scope.Scope.{Scope}
 use Rattle.rt_exprs.specs.Modes.{Want}
 use Rattle.rt_exprs.specs.Outcomes.{Outcome, Gives, is_before}
@@ -24,6 +24,10 @@ settled Stands (NotAssignable at) h = h
 settled Stands (WrongCount at) h = h
 settled Stands (RefOfLocal at) h = h
 settled Stands (LeftOut form at) h = h
+settled Stands (DeclaredTwice at) h = h
+settled Stands (BadStart at) h = h
+settled Stands (UnknownLabel at) h = h
+settled Stands (NoResult at) h = h
 
 settled_memory : (Stands : CheckFault → Type 0) (g : CheckFault) → g ≡ Memory → Settles Stands g
 settled_memory Stands g e = subst (λ (h : CheckFault). Settles Stands h) (sym e) tt

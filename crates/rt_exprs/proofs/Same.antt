@@ -1,4 +1,4 @@
--- Modes are the same where they are equal.
+-- Modes are the same where they are equal, as they are for trees.
 use Rattle.std.proofs.Common.{◌≡◌, ℕ, ◌==◌, ◌&&◌, Bool, true, false, List, [], ◌∷◌, Option, Some, None, map, option_map, arith, refl, sym, ap, ◌∙◌, subst}
 use Rattle.std.proofs.lemmas.Bool.Decides.{nat_tests}
 use Rattle.rt_modes.specs.declared.mode.Mode.{Mode, out-Mode, roll-Mode, map-Mode, the_lemmas}
@@ -6,6 +6,8 @@ use Rattle.rt_modes.specs.declared.mode.Mode.TheFolds.{ind-Mode}
 use Rattle.rt_modes.specs.declared.mode.Mode.TheOpen.{Mode-F}
 use Rattle.rt_exprs.specs.Modes.{Layer, Way, way, same, layer_same, all_same, result_same}
 use Rattle.rt_exprs.proofs.Levels.{way_at, way_layer}
+use Rattle.rt_tree.specs.Scopes.{same as tree_same}
+use Rattle.rt_tree.proofs.Same.{same_equal as tree_equal, equal_same as equal_tree}
 
 roll_out : (m : Mode) → roll-Mode (out-Mode m) ≡ m
 roll_out m = search the_lemmas
@@ -134,3 +136,12 @@ same_itself = ind-Mode Itself (λ x y is. self_opened (roll-Mode x) y (out_roll 
 
 pub equal_same : (m n : Mode) → m ≡ n → same m n ≡ true
 equal_same m n e = subst (λ (k : Mode). same m k ≡ true) e (same_itself m)
+
+one_answer : (a b : Bool) → (a ≡ true → b ≡ true) → (b ≡ true → a ≡ true) → a ≡ b
+one_answer true b f g = sym (f refl)
+one_answer false true f g = g refl
+one_answer false false f g = refl
+
+-- they are the same here exactly where they are for trees
+pub as_in_trees : (m n : Mode) → tree_same m n ≡ same m n
+as_in_trees m n = one_answer (tree_same m n) (same m n) (λ e. equal_same m n (tree_equal m n e)) (λ e. equal_tree m n (same_equal m n e))

@@ -70,7 +70,7 @@ abbrev pub or_else : {A : Type 0} → Option A → Option A → Option A
 or_else (Some x) other = Some x
 or_else None other = other
 
--- A name that stands by itself: what it is, or its fault.
+-- A name that stands by itself: what it is, or its fault. Of a name whose declaration is unfit the fault is the declaration's.
 abbrev pub named : At → Option Meaning → Outcome Is
 named at None = Err (fault.UnknownName at)
 named at (Some (meaning.Proc k m)) = Ok (brick k m)
@@ -79,6 +79,7 @@ named at (Some (meaning.SvcItem b i m)) = Ok (place (places.Item b i) m standing
 named at (Some (meaning.Svc k m)) = if k == 0 then Err (fault.LeftOut 2 at) else Ok (place (places.Svc k) m standing.Private)
 named at (Some (meaning.Local k m)) = Ok (place (places.Local k) m standing.Private)
 named at (Some (meaning.Loop k)) = Ok (loop k)
+named at (Some (meaning.Unfit g)) = Err g
 named at (Some other) = Err (fault.WrongMode at)
 
 -- the number, from k, and the mode of the first field of a name

@@ -1,7 +1,8 @@
 -- What is found, or the first fault: the one at the least item, and of those the one of least number.
 use Rattle.std.specs.Prelude.{◌≡◌, ℕ, Bool, nat_lt, nat_le, ◌==◌, ◌||◌, ◌&&◌, if◌then◌else◌, List, [], ◌∷◌, ◌++◌, Option, Some, None, Result, Ok, Err}
+use Rattle.rt_grammar.specs.declared.at.At.{At}
 use Rattle.rt_exprs.specs.declared.fault.CheckFault.{CheckFault}
-use Rattle.rt_exprs.specs.declared.fault.CheckFault.TheVariants.{Memory, UnknownName, WrongMode, NotAssignable, WrongCount, RefOfLocal, LeftOut}
+use Rattle.rt_exprs.specs.declared.fault.CheckFault.TheVariants.{Memory, UnknownName, WrongMode, NotAssignable, WrongCount, RefOfLocal, LeftOut, DeclaredTwice, BadStart, UnknownLabel, NoResult}
 
 abbrev pub number_of : CheckFault → ℕ
 number_of Memory = 0
@@ -11,16 +12,32 @@ number_of (NotAssignable at) = 22
 number_of (WrongCount at) = 23
 number_of (RefOfLocal at) = 24
 number_of (LeftOut form at) = 25
+number_of (DeclaredTwice at) = 26
+number_of (BadStart at) = 27
+number_of (UnknownLabel at) = 28
+number_of (NoResult at) = 29
+
+-- where it stands
+abbrev pub at_of : CheckFault → Option At
+at_of Memory = None
+at_of (UnknownName at) = Some at
+at_of (WrongMode at) = Some at
+at_of (NotAssignable at) = Some at
+at_of (WrongCount at) = Some at
+at_of (RefOfLocal at) = Some at
+at_of (LeftOut form at) = Some at
+at_of (DeclaredTwice at) = Some at
+at_of (BadStart at) = Some at
+at_of (UnknownLabel at) = Some at
+at_of (NoResult at) = Some at
+
+abbrev pub item_at : Option At → ℕ
+item_at None = 0
+item_at (Some at) = at.item
 
 -- the item where it stands; want of memory goes before every fault
 abbrev pub item_of : CheckFault → ℕ
-item_of Memory = 0
-item_of (UnknownName at) = at.item
-item_of (WrongMode at) = at.item
-item_of (NotAssignable at) = at.item
-item_of (WrongCount at) = at.item
-item_of (RefOfLocal at) = at.item
-item_of (LeftOut form at) = at.item
+item_of f = item_at (at_of f)
 
 abbrev pub is_before : CheckFault → CheckFault → Bool
 is_before f g = nat_lt (item_of f) (item_of g) || (item_of f == item_of g && nat_le (number_of f) (number_of g))

@@ -30,6 +30,7 @@ pub fn fit_condition(alloc: Global, condition: &Cond, scope: &Scope<'_>) -> Resu
     ensures fits { IfOk result (TestIs scope.now condition.now) }
     ensures only { (t : Test) → TestIs scope.now condition.now t → IsAnswered t result }
     ensures fault { IfErr result (Settles (FaultInTest scope.now condition.now)) }
+    ensures value { Gives (λ t. t) result (spec.tested scope.now condition.now) }
 {
     test(alloc, condition, scope)
 }

@@ -3,6 +3,7 @@
 ghost use Rattle.std.specs.Prelude.{◌≡◌, map, IfOk, IfErr};
 ghost use Rattle.rt_exprs.specs.Fitting.{Fits, Faulty, Settles, IsAnswered};
 ghost use Rattle.rt_exprs.specs.Judging as spec;
+ghost use Rattle.rt_exprs.specs.Modes.{want};
 ghost use Rattle.rt_exprs.specs.Operands.{found_of, want_of};
 ghost use Rattle.rt_exprs.specs.Outcomes.{Gives};
 
@@ -189,6 +190,8 @@ pub fn fit(
     ensures only { (x : Value) → Fits scope.now expr.now wanted.now x → IsAnswered x result }
     // A fault stands, and counts of all that stand.
     ensures fault { IfErr result (Settles (Faulty scope.now expr.now wanted.now)) }
+    // It is the value that is computed, or the fault.
+    ensures value { Gives (λ v. v) result (spec.fitted scope.now expr.now (want wanted.now)) }
 {
     fit_wanted(alloc, scope, expr, wanted_of(wanted))
 }

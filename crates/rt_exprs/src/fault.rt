@@ -1,4 +1,4 @@
-//! What can be wrong with an expression.
+//! What can be wrong with an expression, and with the module that holds it.
 
 ghost use Rattle.std.specs.Prelude.{◌≡◌, List};
 ghost use Rattle.rt_exprs.specs.Outcomes as spec;
@@ -9,7 +9,8 @@ use rt_tree::Value;
 use rt_words::{List, Memory};
 use thiserror::Error;
 
-/// The first fault of an expression: where it stands, and what it is.
+/// The first fault of an expression or of a module: where it stands, and what it is. Expressions have the faults 20 to 25
+/// alone, and those of the declarations that they name.
 #[derive(Clone, Copy, Debug, PartialEq, Eq, Drop, Error)]
 pub enum CheckFault {
     #[error("out of memory")]
@@ -32,6 +33,18 @@ pub enum CheckFault {
     /// A part of the language that is left out, by the number of its form.
     #[error("{at:?}: left out, form {form}")]
     LeftOut { form: u8, at: At },
+    /// The second name of one scope, or a record that contains itself.
+    #[error("{0:?}: declared twice")]
+    DeclaredTwice(At),
+    /// A start that is wrong or missing, a length out of range, or too large a record or data brick.
+    #[error("{0:?}: bad start")]
+    BadStart(At),
+    /// A name in GOTO or SWITCH that is no label there.
+    #[error("{0:?}: unknown label")]
+    UnknownLabel(At),
+    /// A result that is missing: at ENDPROC, or at RETURN.
+    #[error("{0:?}: no result")]
+    NoResult(At),
 }
 
 impl From<Memory> for CheckFault {
@@ -46,7 +59,7 @@ impl From<Memory> for CheckFault {
 }
 
 impl CheckFault {
-    /// The number of the fault, 20 to 25; 0 for want of memory.
+    /// The number of the fault, 20 to 29; 0 for want of memory.
     pub fn number(self) -> u8
         ensures { result ≡ spec.number_of self }
     {
@@ -58,6 +71,29 @@ impl CheckFault {
             CheckFault::WrongCount(_) => 23,
             CheckFault::RefOfLocal(_) => 24,
             CheckFault::LeftOut { .. } => 25,
+            CheckFault::DeclaredTwice(_) => 26,
+            CheckFault::BadStart(_) => 27,
+            CheckFault::UnknownLabel(_) => 28,
+            CheckFault::NoResult(_) => 29,
+        }
+    }
+
+    /// Where the fault stands; `None` for want of memory.
+    pub fn at(self) -> Option<At>
+        ensures { result ≡ spec.at_of self }
+    {
+        match self {
+            CheckFault::Memory => None,
+            CheckFault::UnknownName(at)
+            | CheckFault::WrongMode(at)
+            | CheckFault::NotAssignable(at)
+            | CheckFault::WrongCount(at)
+            | CheckFault::RefOfLocal(at)
+            | CheckFault::LeftOut { at, .. }
+            | CheckFault::DeclaredTwice(at)
+            | CheckFault::BadStart(at)
+            | CheckFault::UnknownLabel(at)
+            | CheckFault::NoResult(at) => Some(at),
         }
     }
 
@@ -65,14 +101,9 @@ impl CheckFault {
     pub fn item(self) -> u16
         ensures { result ≡ spec.item_of self }
     {
-        match self {
-            CheckFault::Memory => 0,
-            CheckFault::UnknownName(at) => at.item,
-            CheckFault::WrongMode(at) => at.item,
-            CheckFault::NotAssignable(at) => at.item,
-            CheckFault::WrongCount(at) => at.item,
-            CheckFault::RefOfLocal(at) => at.item,
-            CheckFault::LeftOut { at, .. } => at.item,
+        match self.at() {
+            Some(at) => at.item,
+            None => 0,
         }
     }
 

@@ -25,7 +25,7 @@ mod target;
 pub use condition::fit_condition;
 pub use expression::{fit, one_value};
 pub use fault::CheckFault;
-pub use modes::{references_are_followed, same_modes_are_equal};
+pub use modes::references_are_followed;
 pub use scope::{Level, Meaning, Scope};
 pub use target::{fit_call, fit_target, fit_val_target};
 

@@ -14,89 +14,10 @@ use rt_words::{Boxed, Memory};
 use std::alloc::Global;
 
 /// Whether two modes of one module are the same.
-#[cycle(same)]
-pub fn same_mode(left: &Mode, right: &Mode) -> bool
+fn same_mode(left: &Mode, right: &Mode) -> bool
     ensures { result ≡ spec.same left.now right.now }
 {
-    match left {
-        Mode::Byte => is_byte(right),
-        Mode::Int => is_int(right),
-        Mode::Frac => is_frac(right),
-        Mode::Label => is_label(right),
-        Mode::Ref(to) => same_option(to.get(), ref_of(right)),
-        Mode::RefArray(of) => same_option(of.get(), row_of(right)),
-        Mode::Array(length, of) => same_array(*length, of.get(), array_of(right)),
-        Mode::Record(number) => record_of(right) == Some(*number),
-        Mode::Proc(parameters, answer) => {
-            same_parameters(parameters.as_slice(), parameters_of(right))
-                && same_answer(answer, answer_of(right))
-        }
-    }
-}
-
-#[cycle(same)]
-fn same_option(left: &Mode, right: Option<&Mode>) -> bool
-    ensures { result ≡ spec.passes (spec.same left.now) (option_copied right.entry) }
-{
-    match right {
-        Some(right) => same_mode(left, right),
-        None => false,
-    }
-}
-
-#[cycle(same)]
-fn same_array(length: u16, left: &Mode, right: Option<(u16, &Mode)>) -> bool
-    ensures { result ≡ spec.passes (λ x. length == x.0 && spec.same left.now x.1.now) right.entry }
-{
-    match right {
-        Some((other, right)) => length == other && same_mode(left, right),
-        None => false,
-    }
-}
-
-#[cycle(same)]
-fn same_parameters(left: &[Mode], right: Option<&[Mode]>) -> bool
-    ensures { result ≡ spec.passes (spec.all_same (map spec.way left.now)) (option_copied right.entry) }
-{
-    match right {
-        Some(right) => same_modes(left, right),
-        None => false,
-    }
-}
-
-#[cycle(same)]
-fn same_answer(left: &Option<Boxed<Mode>>, right: Option<Option<&Mode>>) -> bool
-    ensures { result ≡ spec.passes (λ x. spec.result_same (option_map spec.way left.now) (option_copied x)) right.entry }
-{
-    match right {
-        Some(right) => same_result(left, right),
-        None => false,
-    }
-}
-
-#[cycle(same)]
-fn same_modes(left: &[Mode], right: &[Mode]) -> bool
-    ensures { result ≡ spec.all_same (map spec.way left.now) right.now }
-{
-    if left.len() != right.len() {
-        return false;
-    }
-    for i in 0..left.len() {
-        if !same_mode(&left[i], &right[i]) {
-            return false;
-        }
-    }
-    true
-}
-
-#[cycle(same)]
-fn same_result(left: &Option<Boxed<Mode>>, right: Option<&Mode>) -> bool
-    ensures { result ≡ spec.result_same (option_map spec.way left.now) (option_copied right.entry) }
-{
-    match left {
-        Some(left) => same_option(left.get(), right),
-        None => right.is_none(),
-    }
+    rt_tree::same_mode(left, right)
 }
 
 /// Whether a mode is BYTE.
@@ -113,18 +34,6 @@ pub fn is_int(mode: &Mode) -> bool
     matches!(mode, Mode::Int)
 }
 
-fn is_frac(mode: &Mode) -> bool
-    ensures { result ≡ spec.is_frac (out-Mode mode.now) }
-{
-    matches!(mode, Mode::Frac)
-}
-
-fn is_label(mode: &Mode) -> bool
-    ensures { result ≡ spec.is_label (out-Mode mode.now) }
-{
-    matches!(mode, Mode::Label)
-}
-
 /// The mode to which a REF leads.
 pub fn ref_of(mode: &Mode) -> Option<&Mode>
     ensures { option_copied result ≡ spec.ref_of (out-Mode mode.now) }
@@ -135,52 +44,12 @@ pub fn ref_of(mode: &Mode) -> Option<&Mode>
     }
 }
 
-/// The mode of an element of a REF ARRAY.
-fn row_of(mode: &Mode) -> Option<&Mode>
-    ensures { option_copied result ≡ spec.row_of (out-Mode mode.now) }
-{
-    match mode {
-        Mode::RefArray(of) => Some(of.get()),
-        _ => None,
-    }
-}
-
-/// The length of an array, and the mode of an element.
-pub fn array_of(mode: &Mode) -> Option<(u16, &Mode)>
-    ensures { option_map (λ x. (x.0, x.1.now)) result ≡ spec.array_of (out-Mode mode.now) }
-{
-    match mode {
-        Mode::Array(length, of) => Some((*length, of.get())),
-        _ => None,
-    }
-}
-
 /// The number of a record.
 pub fn record_of(mode: &Mode) -> Option<u16>
     ensures { result ≡ spec.record_of (out-Mode mode.now) }
 {
     match mode {
         Mode::Record(number) => Some(*number),
-        _ => None,
-    }
-}
-
-/// The modes of the parameters of a PROC.
-pub fn parameters_of(mode: &Mode) -> Option<&[Mode]>
-    ensures { option_copied result ≡ spec.parameters_of (out-Mode mode.now) }
-{
-    match mode {
-        Mode::Proc(parameters, _) => Some(parameters.as_slice()),
-        _ => None,
-    }
-}
-
-/// The mode of the result of a PROC, where it has one.
-pub fn answer_of(mode: &Mode) -> Option<Option<&Mode>>
-    ensures { option_map option_copied result ≡ spec.answer_of (out-Mode mode.now) }
-{
-    match mode {
-        Mode::Proc(_, answer) => Some(lent(answer)),
         _ => None,
     }
 }
@@ -341,9 +210,4 @@ pub fn base_of(mode: &Mode) -> Base
 /// REFs stand in front, or that as an INT where it is a BYTE.
 pub fn references_are_followed()
     ensures { FollowsReferences }
-{}
-
-/// Two modes are the same exactly where they are equal.
-pub fn same_modes_are_equal()
-    ensures { (m n : Mode) → IsTrue (spec.same m n) ↔ (m ≡ n) }
 {}

@@ -51,6 +51,7 @@ pub fn name_at<'a>(meaning: Option<&'a Meaning>, at: At) -> Result<Meant<'a>, Ch
                 Ok(Meant::Place(Place::Local(*local), mode, Standing::Private))
             }
             Meaning::Loop(local) => Ok(Meant::Loop(*local)),
+            Meaning::Unfit(fault) => Err(*fault),
             _ => Err(CheckFault::WrongMode(at)),
         },
     }

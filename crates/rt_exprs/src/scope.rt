@@ -1,5 +1,6 @@
 //! What names stand for.
 
+use crate::fault::CheckFault;
 use indexmap::{IndexMap, IndexSet};
 use rt_modes::{Mode, ModeTable};
 
@@ -26,6 +27,9 @@ pub enum Meaning {
     Loop(u16),
     /// A label, by its number.
     Label(u16),
+    /// A brick, an item, a parameter or a local whose mode is unfit, by the fault of its declaration: an expression that names
+    /// it isn't judged, so it has this fault.
+    Unfit(CheckFault),
 }
 
 /// The names of one level, in the order of declaration, and what they stand for.

@@ -35,6 +35,7 @@ pub fn fit_target<'a>(
     ensures fits { IfOk result (λ x. Assigns scope.now chain.now (x.0, x.1.now)) }
     ensures only { (x : Place × Mode) → Assigns scope.now chain.now x → IsAnsweredAs (λ y. (y.0, y.1.now)) x result }
     ensures fault { IfErr result (Settles (NotAssigned scope.now chain.now)) }
+    ensures value { Gives (λ x. (x.0, x.1.now)) result (spec.target scope.now chain.now) }
 {
     target(alloc, chain, scope)
 }
@@ -66,6 +67,7 @@ pub fn fit_val_target<'a>(
     ensures fits { IfOk result (λ x. AssignsVal scope.now at chain.now (x.0, x.1.now)) }
     ensures only { (x : Place × Mode) → AssignsVal scope.now at chain.now x → IsAnsweredAs (λ y. (y.0, y.1.now)) x result }
     ensures fault { IfErr result (Settles (NotAssignedVal scope.now at chain.now)) }
+    ensures value { Gives (λ x. (x.0, x.1.now)) result (spec.val_target scope.now at chain.now) }
 {
     val_target(alloc, at, chain, scope)
 }
@@ -91,6 +93,7 @@ pub fn fit_call(alloc: Global, chain: &Chain, scope: &Scope<'_>) -> Result<Value
     ensures fits { IfOk result (CallIs scope.now chain.now) }
     ensures only { (x : Value) → CallIs scope.now chain.now x → IsAnswered x result }
     ensures fault { IfErr result (Settles (NoCall scope.now chain.now)) }
+    ensures value { Gives (λ v. v) result (spec.alone scope.now chain.now) }
 {
     call_alone(alloc, chain, scope)
 }

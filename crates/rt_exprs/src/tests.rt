@@ -29,6 +29,7 @@ enum Kind {
     Local,
     Loop,
     Label,
+    Unfit,
 }
 
 fn meaning(alloc: Global, kind: Kind, number: u16, spelling: &[u8]) -> Result<Meaning, Fail> {
@@ -43,6 +44,10 @@ fn meaning(alloc: Global, kind: Kind, number: u16, spelling: &[u8]) -> Result<Me
         Kind::Local => Meaning::Local(number, mode(alloc, spelling)?),
         Kind::Loop => Meaning::Loop(number),
         Kind::Label => Meaning::Label(number),
+        Kind::Unfit => Meaning::Unfit(CheckFault::BadStart(At {
+            item: number,
+            line: 9,
+        })),
     })
 }
 
@@ -58,7 +63,7 @@ const INNER: [(&[u8], Kind, u16, &[u8]); 7] = [
 ];
 
 /// The names of the module.
-const OUTER: [(&[u8], Kind, u16, &[u8]); 36] = [
+const OUTER: [(&[u8], Kind, u16, &[u8]); 37] = [
     (b"R", Kind::Mode, 0, b""),
     (b"HID", Kind::Mode, 0, b""),
     (b"D", Kind::Data, 0, b""),
@@ -95,6 +100,7 @@ const OUTER: [(&[u8], Kind, u16, &[u8]); 36] = [
     (b"QG", Kind::Proc, 19, b"\x09\x00\x09\x01\x02\x02"),
     (b"QF", Kind::Proc, 20, b"\x09\x00\x03"),
     (b"QB", Kind::Proc, 21, b"\x09\x00\x01"),
+    (b"BAD", Kind::Unfit, 77, b""),
 ];
 
 fn level<'a>(alloc: Global, names: &[(&'a [u8], Kind, u16, &'a [u8])]) -> Result<Level<'a>, Fail> {
@@ -266,7 +272,7 @@ const REF: &[u8] = b"\x04\x02";
 
 const REF_REF: &[u8] = b"\x04\x04\x02";
 
-const VALUES: [(&[u8], &[u8], &str); 20] = [
+const VALUES: [(&[u8], &[u8], &str); 22] = [
     // number_for_a_byte
     (BYTE, b"256", "21 at 0"),
     (BYTE, b"255", "255"),
@@ -280,6 +286,8 @@ const VALUES: [(&[u8], &[u8], &str); 20] = [
     (REF, b"I", "ref(item 0.0)"),
     // unknown_name
     (INT, b"TRUE", "20 at 0"),
+    (INT, b"BAD", "27 at 77"),
+    (INT, b"BAD LAND NO", "20 at 2"),
     (INT, b"HID", "(local 5)"),
     (INT, b"R", "21 at 0"),
     (INT, b"D + STK", "21 at 0"),

@@ -1,0 +1,3 @@
+mod Bounding
+mod Holding
+pub mod Same

@@ -17,7 +17,7 @@ use Rattle.rt_tree.specs.declared.sight.Seen.TheVariants as seen
 use Rattle.rt_tree.specs.declared.sight.Sight as code_sight
 use Rattle.rt_tree.specs.Scopes.{Scope, faces}
 use Rattle.rt_tree.specs.Statements.{Sight}
-use Rattle.rt_tree.specs.Typing.{Signature, Found, Variable, Loop, Shared, Supplied, Row}
+use Rattle.rt_tree.specs.Typing.{Signature, Found, Variable, Loop, Shared, Private, Row}
 
 abbrev pub scope : code_scope.Scope → Scope
 scope c = record {
@@ -44,7 +44,7 @@ abbrev pub found : code_found.Found → Found
 found (code.Variable m) = Variable m.now
 found code.Loop = Loop
 found (code.Shared m) = Shared (lent m)
-found (code.Supplied m) = Supplied m.now
+found (code.Private m) = Private m.now
 found (code.Row m) = Row (lent m)
 
 abbrev pub mode_found : Option ValueMode → Option Mode
@@ -56,9 +56,6 @@ place_found = option_map found
 -- the result of a call, if any
 abbrev pub call_found : Option (Option ValueMode) → Option (Option Mode)
 call_found = option_map mode_found
-
-abbrev pub shared : Option Mode → Option Found
-shared = option_map Shared
 
 abbrev pub signature_seen : code_signature.Signature → Signature
 signature_seen s = record { parameters = s.parameters.now; answer = mode_found s.answer }

@@ -3,6 +3,8 @@ pub mod Depth
 pub mod Modules
 pub mod Scopes
 pub mod Statements
+pub mod Stored
+pub mod Taken
 pub mod Tree
 pub mod Typing
 pub mod Weights

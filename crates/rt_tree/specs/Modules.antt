@@ -1,5 +1,5 @@
 -- Which modules have only fitting nodes.
-use Rattle.std.specs.Prelude.{ℕ, ◌-◌, Bool, true, false, ◌&&◌, ◌||◌, not, nat_lt, nat_le, ◌==◌, if◌then◌else◌, List, [], ◌∷◌, codes, length, map, Option, Some, None, slice_get, slice_set}
+use Rattle.std.specs.Prelude.{ℕ, zero, suc, ◌-◌, Bool, true, false, ◌&&◌, ◌||◌, not, nat_lt, nat_le, ◌==◌, if◌then◌else◌, List, [], ◌∷◌, codes, length, map, Option, Some, None, slice_get}
 use Rattle.std.specs.List.{list_all}
 use Rattle.std.specs.Str.{bytes_eq}
 use Rattle.rt_modes.specs.declared.mode.Field.{Field}
@@ -287,10 +287,9 @@ abbrev pub brick_with : ℕ → Brick → Brick
 brick_with most b = record { kind = b.kind; name = b.name; sort = sort_with most b.sort }
 
 abbrev pub bricks_with : List Brick → ℕ → ℕ → List Brick
-bricks_with bs k most = elim (slice_get bs k) [
-  | None ↦ bs
-  | Some b ↦ slice_set bs k (brick_with most b)
-]
+bricks_with [] k most = []
+bricks_with (b ∷ bs) zero most = brick_with most b ∷ bs
+bricks_with (b ∷ bs) (suc k) most = b ∷ bricks_with bs k most
 
 -- the parts with another bound of one brick, and nothing else changed
 abbrev pub with_most : ModuleParts → ℕ → ℕ → ModuleParts

@@ -193,10 +193,6 @@ pub record Scope : Type 0 where
 abbrev pub field_mode : List RecordDef → ℕ → ℕ → Option Mode
 field_mode records r k = with (slice_get records r) (λ d. field_at d.fields k)
 
--- item j of data brick b
-abbrev pub item_mode : List Face → ℕ → ℕ → Option Mode
-item_mode bricks b j = with (slice_get bricks b) (λ d. with (items_of d) (λ fs. field_at fs j))
-
 -- items 0 to 2 are those of the error data, 3 and 4 those of the streams
 abbrev pub svc_mode : Scope → ℕ → Option Mode
 svc_mode c k = if nat_lt k 3 then with c.errors (λ fs. field_at fs k) else with c.streams (λ fs. field_at fs (k - 3))

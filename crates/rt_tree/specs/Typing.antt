@@ -15,7 +15,7 @@ use Rattle.rt_tree.specs.declared.value.Callee.TheFolds.{fold-Callee, fold-Place
 use Rattle.rt_tree.specs.declared.value.Callee.TheOpen.{Callee-F, Place-F, Value-F}
 use Rattle.rt_tree.specs.declared.value.Place.{Place}
 use Rattle.rt_tree.specs.declared.value.Value.{Value}
-use Rattle.rt_tree.specs.Scopes.{with, only, passes, same, Scope, field_mode, item_mode, svc_mode, proc_mode}
+use Rattle.rt_tree.specs.Scopes.{with, only, passes, same, Scope, Face, is_svc, items_of, field_at, field_mode, svc_mode, proc_mode}
 use Rattle.rt_tree.specs.Tree.{Term, Num, Str, Name, Own, Get, Ref, RefRow, Count, CountRow, One, Two, Over, Apply, ApplyBy, Path, ItemAt, Svc, FieldOf, Elem, ElemRow, Past, Terms, NoTerm, MoreTerms}
 
 -- ---- modes
@@ -50,8 +50,8 @@ both test a b = test a && test b
 pub data Found : Type 0 where
   Variable : (m : Mode) → Found  -- a parameter or local
   Loop : Found  -- one of a loop's own, of mode INT
-  Shared : (m : Mode) → Found  -- an item, a field or an element, or where a REF leads
-  Supplied : (m : Mode) → Found  -- an item of the task's own data
+  Shared : (m : Mode) → Found  -- an item, a field or an element that all tasks share, or where a REF leads
+  Private : (m : Mode) → Found  -- an item of SVC data, of which each task has its own, or a field or element of one
   Row : (m : Mode) → Found  -- the array of elements of mode m to which a REF ARRAY leads
 
 -- the plain tree of a place
@@ -81,13 +81,23 @@ abbrev pub local_found : Local → Found
 local_found (local.Variable m) = Variable m
 local_found local.Loop = Loop
 
+-- an item of SVC data, or one that all tasks share
+abbrev pub kept : Bool → Mode → Found
+kept true = Private
+kept false = Shared
+
+-- item j of data brick b
+abbrev pub item_found : List Face → ℕ → ℕ → Option Found
+item_found bricks b j = with (slice_get bricks b) (λ d. with (items_of d) (λ fs. option_map (kept (is_svc d.kind)) (field_at fs j)))
+
 -- a field of a record
-abbrev pub field_by : List RecordDef → ℕ → Mode-F Mode → Option Found
-field_by records k (Mode-F.Record r) = option_map Shared (field_mode records r k)
+abbrev pub field_by : List RecordDef → ℕ → Mode-F Mode → Option Mode
+field_by records k (Mode-F.Record r) = field_mode records r k
 field_by records k _ = None
 
 abbrev pub field_found : List RecordDef → ℕ → Found → Option Found
-field_found records k (Shared m) = field_by records k (out-Mode m)
+field_found records k (Shared m) = option_map Shared (field_by records k (out-Mode m))
+field_found records k (Private m) = option_map Private (field_by records k (out-Mode m))
 field_found records k _ = None
 
 abbrev pub field_path : Mode-F Mode → Path → ℕ → Path
@@ -96,18 +106,20 @@ field_path _ p k = p
 
 abbrev pub field_in : Option Found → Spot → ℕ → Spot
 field_in (Some (Shared m)) (OnPath q) k = OnPath (field_path (out-Mode m) q k)
+field_in (Some (Private m)) (OnPath q) k = OnPath (field_path (out-Mode m) q k)
 field_in _ other k = other
 
 abbrev pub field_tree : Placed → ℕ → Spot
 field_tree p k = field_in p.found p.tree k
 
 -- an element of an array
-abbrev pub element_by : Mode-F Mode → Option Found
-element_by (Mode-F.Array n m) = Some (Shared m)
+abbrev pub element_by : Mode-F Mode → Option Mode
+element_by (Mode-F.Array n m) = Some m
 element_by _ = None
 
 abbrev pub element_found : Found → Option Found
-element_found (Shared m) = element_by (out-Mode m)
+element_found (Shared m) = option_map Shared (element_by (out-Mode m))
+element_found (Private m) = option_map Private (element_by (out-Mode m))
 element_found (Row m) = Some (Shared m)
 element_found _ = None
 
@@ -117,6 +129,7 @@ element_path _ p v = p
 
 abbrev pub element_in : Option Found → Spot → Term → Spot
 element_in (Some (Shared m)) (OnPath q) v = OnPath (element_path (out-Mode m) q v)
+element_in (Some (Private m)) (OnPath q) v = OnPath (element_path (out-Mode m) q v)
 element_in (Some (Row m)) (OnRow a) v = OnPath (ElemRow a v m)
 element_in _ other v = other
 
@@ -140,8 +153,8 @@ led_tree None v = OnRow v
 module _ (c : Scope) where
   abbrev pub one_place : Place-F Called Placed Valued → Placed
   one_place (Place-F.Local i) = record { found = option_map local_found (slice_get c.locals i); tree = OnLocal i }
-  one_place (Place-F.Item b j) = record { found = option_map Shared (item_mode c.bricks b j); tree = OnPath (ItemAt b j) }
-  one_place (Place-F.Svc k) = record { found = option_map Supplied (svc_mode c k); tree = OnPath (Svc k) }
+  one_place (Place-F.Item b j) = record { found = item_found c.bricks b j; tree = OnPath (ItemAt b j) }
+  one_place (Place-F.Svc k) = record { found = option_map Private (svc_mode c k); tree = OnPath (Svc k) }
   one_place (Place-F.Field p k) = record { found = with p.found (field_found c.records k); tree = field_tree p k }
   one_place (Place-F.Element p v) = record { found = with p.found (λ f. with v.mode (λ m. if is_int m then element_found f else None)); tree = element_in p.found p.tree v.tree }
   one_place (Place-F.«Place::Through» v) = record { found = with v.mode led; tree = led_tree v.mode v.tree }
@@ -153,7 +166,7 @@ abbrev pub read_mode : Found → Option Mode
 read_mode (Variable m) = value_mode m
 read_mode Loop = Some mode.Int
 read_mode (Shared m) = value_mode m
-read_mode (Supplied m) = value_mode m
+read_mode (Private m) = value_mode m
 read_mode (Row m) = None
 
 -- the mode of what may be assigned there
@@ -163,7 +176,7 @@ assigned_mode f = read_mode f
 
 abbrev pub mode_at : Option Found → Mode
 mode_at (Some (Shared m)) = m
-mode_at (Some (Supplied m)) = m
+mode_at (Some (Private m)) = m
 mode_at _ = mode.Int
 
 abbrev pub read_tree : Placed → Term
@@ -173,7 +186,7 @@ read_tree p = elim p.tree [
   | OnRow v ↦ v
 ]
 
--- Its reference. That of a local or of an item of the task's own data can't be taken.
+-- Its reference. That of a local or of a place of SVC data can't be taken.
 abbrev pub reference_by : Mode-F Mode → Mode → Option Mode
 reference_by (Mode-F.Array n m) _ = Some (mode.RefArray m)
 reference_by Mode-F.Label _ = None
@@ -201,6 +214,7 @@ length_by _ = None
 
 abbrev pub length_mode : Found → Option Mode
 length_mode (Shared m) = length_by (out-Mode m)
+length_mode (Private m) = length_by (out-Mode m)
 length_mode (Row m) = Some mode.Int
 length_mode _ = None
 

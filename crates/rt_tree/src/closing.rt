@@ -5,9 +5,9 @@ ghost use Rattle.rt_tree.specs.Statements as statements;
 
 use crate::statement::{Body, Branch, Labelled, Stat};
 
-/// Whether a body is closed.
+/// Whether a body is closed: control never comes to its end.
 #[cycle(closing)]
-pub(crate) fn is_closed(body: &Body) -> bool
+pub fn is_closed(body: &Body) -> bool
     ensures { result ≡ statements.closed body.now }
 {
     sequence_closes(body.statements.as_slice())

@@ -19,7 +19,7 @@ impl<'a> Found<'a> {
             Found::Variable(mode) => value_mode(mode),
             Found::Loop => Some(ValueMode::Of(Lent::Int)),
             Found::Shared(mode) => mode.value(),
-            Found::Supplied(mode) => value_mode(mode),
+            Found::Private(mode) => value_mode(mode),
             Found::Row(_) => None,
         }
     }
@@ -50,6 +50,7 @@ impl<'a> Found<'a> {
     {
         match self {
             Found::Shared(mode) => mode.length(),
+            Found::Private(mode) => Lent::Of(mode).length(),
             Found::Row(_) => Some(ValueMode::Of(Lent::Int)),
             _ => None,
         }
@@ -64,6 +65,10 @@ impl<'a> Found<'a> {
                 Some(element) => Some(Found::Shared(Lent::Of(element))),
                 None => None,
             },
+            Found::Private(mode) => match Lent::Of(mode).element() {
+                Some(element) => Some(Found::Private(element)),
+                None => None,
+            },
             Found::Row(element) => Some(Found::Shared(*element)),
             _ => None,
         }
@@ -76,6 +81,10 @@ impl<'a> Found<'a> {
         match self {
             Found::Shared(mode) => match mode.field(scope, k) {
                 Some(field) => Some(Found::Shared(Lent::Of(field))),
+                None => None,
+            },
+            Found::Private(mode) => match Lent::Of(mode).field(scope, k) {
+                Some(field) => Some(Found::Private(field)),
                 None => None,
             },
             _ => None,
@@ -107,7 +116,7 @@ impl<'a> Lent<'a> {
     }
 
     fn field(&self, scope: &Scope<'a>, k: u16) -> Option<&'a Mode>
-        ensures { seen.shared (option_copied result) ≡ typing.field_by scope.now.records.now k (out-Mode (seen.lent self.now)) }
+        ensures { option_copied result ≡ typing.field_by scope.now.records.now k (out-Mode (seen.lent self.now)) }
     {
         match self {
             Lent::Of(mode) => match mode {

@@ -44,10 +44,10 @@ pub enum Found<'a> {
     Variable(&'a Mode),
     /// One of a loop's own locals.
     Loop,
-    /// An item, a field or an element, or where a REF leads.
+    /// An item, a field or an element that all tasks share, or where a REF leads.
     Shared(Lent<'a>),
-    /// An item of the task's own data.
-    Supplied(&'a Mode),
+    /// An item of SVC data, of which each task has its own, or a field or element of one.
+    Private(&'a Mode),
     /// The array of elements of this mode to which a REF ARRAY leads.
     Row(Lent<'a>),
 }
@@ -119,7 +119,7 @@ impl<'a> Lent<'a> {
 
     /// The mode of an element, where this is the mode of an array.
     pub fn element(&self) -> Option<&'a Mode>
-        ensures { option_map typing.Shared (option_copied result) ≡ typing.element_by (out-Mode (seen.lent self.now)) }
+        ensures { option_copied result ≡ typing.element_by (out-Mode (seen.lent self.now)) }
     {
         match self {
             Lent::Of(mode) => match mode {

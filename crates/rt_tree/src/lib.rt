@@ -4,8 +4,10 @@
 mod brick;
 mod bricks;
 mod closing;
+mod copy;
 mod fitting;
 mod found;
+mod laws;
 mod lent;
 mod modes;
 mod module;
@@ -23,6 +25,9 @@ mod typing;
 mod value;
 
 pub use brick::{Brick, BrickSort, DataStart, Kind, Local, ModuleParts, ProcBody};
+pub use closing::is_closed;
+pub use copy::copy_mode;
+pub use laws::{parts_suit_their_modes, same_modes_are_equal, writes_keep_modes};
 pub use lent::{Found, Lent, Signature, ValueMode};
 pub use modes::{Standing, same_mode};
 pub use module::TypedModule;

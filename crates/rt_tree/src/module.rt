@@ -1,9 +1,9 @@
 //! A module in which every node fits.
 
-ghost use Rattle.std.specs.Prelude.{◌≡◌, true, false, IfSome, IfNone};
-ghost use Rattle.rt_tree.specs.Modules.{every_node_fits};
+ghost use Rattle.std.specs.Prelude.{◌≡◌, true, false, IfSome, IfNone, slice_get};
+ghost use Rattle.rt_tree.specs.Modules.{every_node_fits, has_body, is_procedure, sort_with, with_most};
 
-use crate::brick::{Brick, ModuleParts};
+use crate::brick::{Brick, BrickSort, ModuleParts};
 use crate::bricks::every_node_fits;
 use rt_modes::ModeTable;
 use rt_words::{Bytes, List, Name};
@@ -49,6 +49,14 @@ impl TypedModule {
         }
     }
 
+    /// The parts, in which every node fits.
+    pub fn parts(&self) -> &ModuleParts
+        ensures parts { result.now ≡ self.now }
+        ensures fits { every_node_fits self.now ≡ true }
+    {
+        &self.parts
+    }
+
     /// The name behind TITLE.
     pub fn title(&self) -> &Name
         ensures { result.now ≡ self.now.title }
@@ -75,5 +83,42 @@ impl TypedModule {
         ensures { result.now ≡ self.now.strings }
     {
         &self.parts.strings
+    }
+
+    /// Whether a brick is an own or ENT procedure of the module.
+    pub fn is_procedure(&self, brick: u16) -> bool
+        ensures { result ≡ is_procedure (slice_get self.now.bricks brick) }
+    {
+        match self.parts.bricks.get(usize::from(brick)) {
+            Some(found) => has_body(&found.sort),
+            None => false,
+        }
+    }
+
+    /// Sets the bound of the recursion of brick `brick`, an own or ENT procedure, and changes nothing else. It takes no
+    /// memory.
+    pub fn bound(&mut self, brick: u16, most: u16)
+        requires { is_procedure (slice_get self.now.bricks brick) ≡ true }
+        ensures { self.new ≡ with_most self.old brick most }
+    {
+        let mut bricks = self.parts.bricks.take().into_vec();
+        if let Some(found) = bricks.get_mut(usize::from(brick)) {
+            set_most(&mut found.sort, most);
+        }
+        self.parts.bricks = List::from_vec(bricks);
+    }
+}
+
+fn has_body(sort: &BrickSort) -> bool
+    ensures { result ≡ has_body sort.now }
+{
+    matches!(sort, BrickSort::Proc(_, Some(_)))
+}
+
+fn set_most(sort: &mut BrickSort, most: u16)
+    ensures { sort.new ≡ sort_with most sort.old }
+{
+    if let BrickSort::Proc(_, Some(body)) = sort {
+        body.most = most;
     }
 }

@@ -6,8 +6,8 @@ ghost use Rattle.rt_modes.specs.declared.mode.Mode.{out-Mode};
 ghost use Rattle.rt_modes.specs.declared.mode.Mode.TheVariants as variant;
 ghost use Rattle.rt_tree.specs.Code.{scope, place_found, mode_found};
 ghost use Rattle.rt_tree.specs.Modules.{scope_of, with_locals};
-ghost use Rattle.rt_tree.specs.Typing.{local_found, Shared, Supplied};
-ghost use Rattle.rt_tree.specs.Scopes.{only, faces, face, fields_of, items_of, is_errors, is_streams, first_fields, is_error_data, is_stream_data, field_is, field_at, field_mode, item_mode, proc_mode, svc_mode, passes, takes, gives, is_one, is_byte_layer, is_int_layer};
+ghost use Rattle.rt_tree.specs.Typing.{local_found, item_found, Private};
+ghost use Rattle.rt_tree.specs.Scopes.{only, faces, face, fields_of, items_of, is_errors, is_streams, first_fields, is_error_data, is_stream_data, field_is, field_at, field_mode, proc_mode, svc_mode, passes, takes, gives, is_one, is_byte_layer, is_int_layer};
 
 use crate::brick::{Brick, BrickSort, Kind, Local, ModuleParts};
 use crate::lent::{Found, Lent, ValueMode};
@@ -64,21 +64,24 @@ impl<'a> Scope<'a> {
 
     /// Item `j` of data brick `b`, supplied ones apart.
     pub fn item(&self, b: u16, j: u16) -> Option<Found<'a>>
-        ensures { place_found result ≡ option_map Shared (item_mode (faces self.now.bricks.now) b j) }
+        ensures { place_found result ≡ item_found (faces self.now.bricks.now) b j }
     {
-        match self.item_mode(b, j) {
-            None => None,
-            Some(mode) => Some(Found::Shared(Lent::Of(mode))),
-        }
+        let brick = self.bricks.get(usize::from(b))?;
+        let mode = field_at(items_of(brick)?, j)?;
+        Some(if matches!(brick.kind, Kind::Svc) {
+            Found::Private(mode)
+        } else {
+            Found::Shared(Lent::Of(mode))
+        })
     }
 
     /// An item of the task's own data.
     pub fn svc(&self, k: u8) -> Option<Found<'a>>
-        ensures { place_found result ≡ option_map Supplied (svc_mode (scope self.now) k) }
+        ensures { place_found result ≡ option_map Private (svc_mode (scope self.now) k) }
     {
         match self.svc_mode(k) {
             None => None,
-            Some(mode) => Some(Found::Supplied(mode)),
+            Some(mode) => Some(Found::Private(mode)),
         }
     }
 
@@ -116,14 +119,6 @@ impl<'a> Scope<'a> {
     {
         let record = self.records.get(usize::from(r))?;
         field_at(record.fields.as_slice(), k)
-    }
-
-    /// The mode of item `j` of data brick `b`, supplied ones apart.
-    pub fn item_mode(&self, b: u16, j: u16) -> Option<&'a Mode>
-        ensures { option_copied result ≡ item_mode (faces self.now.bricks.now) b j }
-    {
-        let brick = self.bricks.get(usize::from(b))?;
-        field_at(items_of(brick)?, j)
     }
 
     /// The mode of procedure brick `b`.

@@ -118,6 +118,25 @@ fn fitting_module_gives_its_parts(rt: HostRuntime) -> Result<(), Fail> {
     Ok(())
 }
 
+fn most_of(brick: &Brick) -> u16 {
+    match &brick.sort {
+        BrickSort::Proc(_, Some(body)) => body.most,
+        _ => 0,
+    }
+}
+
+#[test]
+fn bound_is_set(rt: HostRuntime) -> Result<(), Fail> {
+    let alloc = rt.alloc();
+    let mut typed = TypedModule::new(parts(alloc, 0)?).ok_or("unfit")?;
+    assert!(rt; !typed.is_procedure(0));
+    if typed.is_procedure(1) {
+        typed.bound(1, 7);
+    }
+    assert_eq!(rt; typed.bricks().get(1).map_or(0, most_of), 7);
+    Ok(())
+}
+
 #[test]
 fn one_unfit_node_refuses_module(rt: HostRuntime) -> Result<(), Fail> {
     let alloc = rt.alloc();
