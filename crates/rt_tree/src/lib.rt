@@ -33,6 +33,7 @@ pub use modes::{Standing, same_mode};
 pub use module::TypedModule;
 pub use operators::{Op1, Op2, Rel};
 pub use scope::Scope;
+pub use starts::shared_mode;
 pub use statement::{Body, Branch, Labelled, LocalStart, Stat, Test};
 pub use step::Step;
 pub use store::{Contents, Datum, Location, Origin, Proc};

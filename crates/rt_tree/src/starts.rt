@@ -121,7 +121,7 @@ fn place_starts(found: &Mode, mode: &Mode) -> bool
 }
 
 /// The mode of a place of data that all tasks share.
-fn shared_mode<'a>(scope: &Scope<'a>, b: u16, j: u16, path: &[u16]) -> Option<&'a Mode>
+pub fn shared_mode<'a>(scope: &Scope<'a>, b: u16, j: u16, path: &[u16]) -> Option<&'a Mode>
     ensures { option_copied result ≡ modules.shared_mode (seen.scope scope.now) b j path.now }
 {
     let brick = scope.bricks.get(usize::from(b))?;
