@@ -31,6 +31,7 @@ pub use laws::{parts_suit_their_modes, same_modes_are_equal, writes_keep_modes};
 pub use lent::{Found, Lent, Signature, ValueMode};
 pub use modes::{Standing, same_mode};
 pub use module::TypedModule;
+pub use operator_modes::{dyadic_mode, monadic_mode};
 pub use operators::{Op1, Op2, Rel};
 pub use scope::Scope;
 pub use starts::shared_mode;

@@ -10,7 +10,7 @@ use crate::lent::{Lent, ValueMode};
 use crate::operators::{Op1, Op2, Rel};
 
 /// The mode of the result of a monadic operator, where its operand fits.
-pub(crate) fn monadic<'a>(operator: Op1, operand: ValueMode<'a>) -> Option<ValueMode<'a>>
+pub fn monadic_mode<'a>(operator: Op1, operand: ValueMode<'a>) -> Option<ValueMode<'a>>
     ensures { seen.mode_found result ≡ typing.monadic_mode operator (seen.value_mode operand.entry) }
 {
     match operator {
@@ -26,7 +26,7 @@ pub(crate) fn monadic<'a>(operator: Op1, operand: ValueMode<'a>) -> Option<Value
 }
 
 /// The mode of the result of a dyadic operator, where its operands fit.
-pub(crate) fn dyadic<'a>(
+pub fn dyadic_mode<'a>(
     operator: Op2,
     left: ValueMode<'a>,
     right: ValueMode<'a>,

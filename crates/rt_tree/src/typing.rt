@@ -5,7 +5,7 @@ ghost use Rattle.rt_tree.specs.Code as seen;
 ghost use Rattle.rt_tree.specs.Typing as typing;
 
 use crate::lent::{Found, Lent, ValueMode};
-use crate::operator_modes::{dyadic, monadic};
+use crate::operator_modes::{dyadic_mode, monadic_mode};
 use crate::scope::Scope;
 use crate::value::{Callee, Place, Value};
 use rt_modes::Mode;
@@ -44,10 +44,13 @@ pub fn mode_of<'a>(scope: &Scope<'a>, value: &Value) -> Option<ValueMode<'a>>
         Value::Read(place) => found_at(scope, place.get())?.read(),
         Value::Reference(place) => found_at(scope, place.get())?.reference(),
         Value::Length(place) => found_at(scope, place.get())?.length(),
-        Value::Monadic(operator, operand) => monadic(*operator, mode_of(scope, operand.get())?),
+        Value::Monadic(operator, operand) => monadic_mode(
+            *operator,
+            mode_of(scope, operand.get())?,
+        ),
         Value::Dyadic(operator, left, right) => {
             let left = mode_of(scope, left.get())?;
-            dyadic(*operator, left, mode_of(scope, right.get())?)
+            dyadic_mode(*operator, left, mode_of(scope, right.get())?)
         }
         Value::Call(_, _) => result_of(scope, value)?,
     }
