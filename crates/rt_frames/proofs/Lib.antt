@@ -1,0 +1,5 @@
+mod Framed
+mod Fused
+mod Gathered
+mod Passed
+mod Reached

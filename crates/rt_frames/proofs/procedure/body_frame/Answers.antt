@@ -1,0 +1,17 @@
+use Rattle.std.proofs.Common.{◌≡◌, false, List, [], refl, sym, ap, ◌∙◌}
+use Rattle.rt_tree.specs.Code as seen
+use Rattle.rt_tree.specs.Modules.{scope_of, with_locals}
+use Rattle.rt_tree.specs.Scopes.{Scope}
+use Rattle.rt_frames.specs.declared.frame.CallPoint.{CallPoint}
+use Rattle.rt_frames.specs.declared.statements.Walk.{Walk}
+use Rattle.rt_frames.proofs.Framed.{frame_is}
+use Rattle.rt_frames.proofs.procedure.body_frame.Goals as goal
+
+abbrev begin : List CallPoint → Walk
+begin cs = record { deep = 0; recovers = false; calls = cs }
+
+pub returns : goal.returns
+returns c =
+    frame_is c.args.parts.now c.args.mode.now c.args.body.now (seen.scope c.with_locals-scope.result) (begin c.in_ok-new.field-0) c.body.new.self c.parameters-count.result c.in_ok-word.field-0 c.in_ok-local_words.field-0 c.len.result
+    (c.with_locals-scope.ensures ∙ ap (λ (s : Scope). with_locals s c.as_slice.result.now) c.of.ensures ∙ ap (λ ls. with_locals (scope_of c.args.parts.now) ls) c.as_slice.ensures) (ap begin c.in_ok-new.ensures) c.in_ok-body.ensures c.in_ok-word.ensures
+    c.parameters-count.ensures c.len.ensures c.in_ok-local_words.ensures

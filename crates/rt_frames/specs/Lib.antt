@@ -1,0 +1,4 @@
+pub mod Frames
+pub mod Measures
+pub mod Points
+pub mod Walks
