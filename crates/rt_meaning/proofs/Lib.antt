@@ -1,8 +1,7 @@
 mod Callers
-mod Changes
 mod Counts
 mod Locals
+mod Others
 mod Placements
 mod Steps
-mod Taken
 mod Tasks

@@ -1,6 +1,6 @@
 -- How many ticks fall up to a number of steps.
 use Rattle.std.proofs.Common.{◌≡◌, ℕ, zero, suc, ◌+◌, ◌-◌, ◌<◌, ◌≤◌, ◌==◌, Bool, true, false, if◌then◌else◌, List, [], ◌∷◌, Option, Some, None, length, refl, sym, ◌∙◌, ap, arith, eqb-true}
-use Rattle.rt_meaning.specs.Step.{World}
+use Rattle.rt_work.specs.World.{World}
 use Rattle.rt_meaning.specs.Run.{State, Reached, ticks_after, then_step, then_ticks, source_run}
 
 abbrev pub ticks_to : List ℕ → ℕ → ℕ

@@ -4,9 +4,10 @@ use Rattle.rt_tree.specs.declared.store.Datum.{Datum}
 use Rattle.rt_tree.specs.declared.store.Location.{Location}
 use Rattle.rt_tree.specs.declared.step.Step.TheVariants as step
 use Rattle.rt_rules.specs.declared.service.Outcome.{Outcome}
-use Rattle.rt_meaning.specs.Stores.{Store, read, write, erp}
-use Rattle.rt_meaning.specs.Task.{Next, Reads, Writes, Calls, Returns, Jumps, Leaps, Asks, Recovers, Errors, Lacks}
-use Rattle.rt_meaning.specs.Step.{World, Act, Task, Over, Failed, Doing, with_todo, act, next_of, task_step}
+use Rattle.rt_work.specs.Stores.{Store, read, write, erp}
+use Rattle.rt_work.specs.Task.{Next, Reads, Writes, Calls, Returns, Jumps, Leaps, Asks, Recovers, Errors, Lacks}
+use Rattle.rt_work.specs.World.{World}
+use Rattle.rt_meaning.specs.Step.{Act, Task, Over, Failed, Doing, with_todo, act, next_of, task_step}
 use Rattle.rt_meaning.specs.Laws.{AnswersServe, own_of, ReadsOne, WritesOne}
 
 act_answers : (w : World) (x : Next) (a : Act) (cs : List Act) (own : List Datum) (S : Store) (o p : Outcome) → (act w x a cs own S o).step ≢ step.Service → act w x a cs own S o ≡ act w x a cs own S p

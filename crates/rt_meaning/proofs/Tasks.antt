@@ -5,12 +5,13 @@ use Rattle.rt_tree.specs.declared.step.Step.{Step}
 use Rattle.rt_rules.specs.Roster.{Roster, InRanges}
 use Rattle.rt_rules.specs.Rules.{running}
 use Rattle.rt_meaning.specs.declared.common.Common.{Common}
-use Rattle.rt_meaning.specs.declared.system.ModuleCode.{ModuleCode}
+use Rattle.rt_work.specs.declared.code.ModuleCode.{ModuleCode}
 use Rattle.rt_meaning.specs.declared.system.Task.{Task as TaskNode}
 use Rattle.rt_meaning.specs.Step.{Task, request}
 use Rattle.rt_meaning.specs.Run as run
 use Rattle.rt_meaning.specs.Run.{Moved, Stepped, stepped_by, task_in, one_step}
-use Rattle.rt_meaning.specs.States.{world, task, tasks, moved}
+use Rattle.rt_work.specs.World.{world}
+use Rattle.rt_meaning.specs.States.{task, tasks, moved}
 use Rattle.std.proofs.lemmas.List.{length-map}
 use Rattle.rt_rules.specs.Rules.{rows_from}
 use Rattle.rt_rules.proofs.Starts.{length-rows_from}

@@ -1,11 +1,13 @@
 -- What holds of every visible step, whatever the modules, the task and the store are.
-use Rattle.std.specs.Prelude.{◌≡◌, ◌≢◌, ◌⊎◌, List, []}
+use Rattle.std.specs.Prelude.{◌≡◌, ◌≢◌, ◌⊎◌, ℕ, ◌<◌, List, [], Option}
 use Rattle.rt_tree.specs.declared.store.Datum.{Datum}
 use Rattle.rt_tree.specs.declared.store.Location.{Location}
 use Rattle.rt_tree.specs.declared.step.Step.TheVariants as step
 use Rattle.rt_rules.specs.declared.service.Outcome.{Outcome}
-use Rattle.rt_meaning.specs.Stores.{Store, read, write}
-use Rattle.rt_meaning.specs.Step.{World, Task, Over, Failed, Doing, task_step}
+use Rattle.rt_work.specs.Stores.{Store, read, write}
+use Rattle.rt_work.specs.World.{World}
+use Rattle.rt_meaning.specs.Run.{State, task_at, stepped, tick}
+use Rattle.rt_meaning.specs.Step.{Task, Over, Failed, Doing, task_step}
 
 -- what comes of a service has no effect where the step is none
 abbrev pub AnswersServe : Type 0
@@ -24,3 +26,11 @@ ReadsOne = (w : World) (t : Task) (o : Outcome) → (p : Location) × ((S R : St
 -- the step leaves the store as it was, or is a write of one datum at one location
 abbrev pub WritesOne : Type 0
 WritesOne = (w : World) (t : Task) (S : Store) (o : Outcome) → ((task_step w t S o).store ≡ S) ⊎ (((task_step w t S o).step ≡ step.Write) × ((p : Location) × ((d : Datum) × ((task_step w t S o).store ≡ write S p d))))
+
+-- the step of task i leaves every other task as it was
+abbrev pub StepsLeaveOthers : Type 0
+StepsLeaveOthers = (w : World) (s : State) (i j : ℕ) (input : Option ℕ) → 0 < i → 0 < j → i ≢ j → task_at (stepped w s i input).state.tasks j ≡ task_at s.tasks j
+
+-- a tick leaves every task, and the store
+abbrev pub TicksLeaveAll : Type 0
+TicksLeaveAll = (s : State) → ((tick s).tasks ≡ s.tasks) × ((tick s).store ≡ s.store)

@@ -1,14 +1,8 @@
 pub mod Conditions
-pub mod Numbers
-pub mod Stores
-pub mod Task
 pub mod Step
 pub mod Run
-pub mod Weights
-pub mod Nodes
 pub mod States
 pub mod Source
 pub mod Roots
 pub mod Laws
-pub mod Bindings
-pub mod Starting
+pub mod Whole

@@ -7,11 +7,12 @@ use Rattle.rt_rules.specs.declared.service.Outcome.{Outcome}
 use Rattle.rt_rules.specs.declared.service.Outcome.TheVariants.{Go, Waits, Error, Ends}
 use Rattle.rt_rules.specs.Rules as rules
 use Rattle.rt_rules.specs.Roster.{Roster}
-use Rattle.rt_meaning.specs.declared.request.Request.{Request}
-use Rattle.rt_meaning.specs.declared.request.Request.TheVariants.{Nothing, Takes, Puts, Rules}
+use Rattle.rt_work.specs.declared.request.Request.{Request}
+use Rattle.rt_work.specs.declared.request.Request.TheVariants.{Nothing, Takes, Puts, Rules}
 use Rattle.rt_tree.specs.declared.store.Proc.{Proc}
-use Rattle.rt_meaning.specs.Stores.{Store, first_own}
-use Rattle.rt_meaning.specs.Step.{World, Task, Over, After, request, task_step, about_to}
+use Rattle.rt_work.specs.Stores.{Store, first_own}
+use Rattle.rt_work.specs.World.{World}
+use Rattle.rt_meaning.specs.Step.{Task, Over, After, request, task_step, about_to}
 
 -- the tasks 1, 2 and so on, the store, the supervisor's rules, and how many bytes of the console were taken
 pub record State : Type 0 where

@@ -1,10 +1,11 @@
 -- A source state of the code as plain data.
 use Rattle.std.specs.Prelude.{ℕ, Bool, true, false, List, Option, Some, None}
 use Rattle.rt_meaning.specs.declared.state.SourceState.{SourceState}
-use Rattle.rt_meaning.specs.Step.{World}
+use Rattle.rt_work.specs.World.{World}
 use Rattle.rt_meaning.specs.declared.run.Reached.{Reached as ReachedNode}
 use Rattle.rt_meaning.specs.Run.{State, Reached}
-use Rattle.rt_meaning.specs.States.{world, tasks}
+use Rattle.rt_work.specs.World.{world}
+use Rattle.rt_meaning.specs.States.{tasks}
 
 -- the modules of its system
 abbrev pub world_of : SourceState → World

@@ -5,45 +5,24 @@ use Rattle.rt_tree.specs.declared.store.Datum.{Datum}
 use Rattle.rt_rules.specs.declared.service.Svc.{Svc}
 use Rattle.rt_rules.specs.declared.service.Outcome.{Outcome}
 use Rattle.rt_rules.specs.declared.service.Outcome.TheVariants.{Go, Error}
-use Rattle.rt_meaning.specs.declared.request.Request.{Request}
-use Rattle.rt_meaning.specs.declared.request.Request.TheVariants.{Rules}
+use Rattle.rt_work.specs.declared.request.Request.{Request}
+use Rattle.rt_work.specs.declared.request.Request.TheVariants.{Rules}
 use Rattle.rt_tree.specs.declared.step.Step.TheVariants as step
-use Rattle.rt_meaning.specs.declared.scene.Scene.{Scene}
-use Rattle.rt_meaning.specs.declared.scene.Next.{Next as NextNode}
-use Rattle.rt_meaning.specs.declared.system.Code.{Code as CodeNode}
-use Rattle.rt_meaning.specs.declared.system.ModuleCode.{ModuleCode}
+use Rattle.rt_work.specs.declared.scene.Scene.{Scene}
+use Rattle.rt_work.specs.declared.scene.Next.{Next as NextNode}
+use Rattle.rt_work.specs.declared.code.ModuleCode.{ModuleCode}
 use Rattle.rt_meaning.specs.declared.system.Act.{Act as ActNode}
 use Rattle.rt_meaning.specs.declared.system.Ending.{Ending}
 use Rattle.rt_meaning.specs.declared.system.Ending.TheVariants as ending
 use Rattle.rt_meaning.specs.declared.system.Task.{Task as TaskNode}
-use Rattle.rt_meaning.specs.Stores.{Store, numbered}
-use Rattle.rt_meaning.specs.Nodes as n
-use Rattle.rt_meaning.specs.Task.{Env, Item, Next}
+use Rattle.rt_work.specs.World.{world}
+use Rattle.rt_work.specs.Stores.{Store}
+use Rattle.rt_work.specs.Nodes as n
+use Rattle.rt_work.specs.Task.{Env, Item, Next}
 use Rattle.rt_meaning.specs.declared.common.Common.{Common}
-use Rattle.rt_meaning.specs.Step.{Code, World, Act, Task, Over, Failed, Doing, with_todo, asked, answers, served, act as step_of}
+use Rattle.rt_meaning.specs.Step.{Act, Task, Over, Failed, Doing, with_todo, asked, answers, served, act as step_of}
 use Rattle.rt_meaning.specs.Run.{Served, Moved, moved_by, serve}
 use Rattle.rt_tree.specs.declared.step.Step.{Step}
-
--- ---- the modules
-
-abbrev pub code : CodeNode → Code
-code c = record { body = n.seq c.body.value; size = c.size }
-
-abbrev pub code_in : Option (Option CodeNode) → Option Code
-code_in None = None
-code_in (Some None) = None
-code_in (Some (Some c)) = Some (code c)
-
-abbrev pub codes_in : Option ModuleCode → ℕ → Option Code
-codes_in None b = None
-codes_in (Some m) b = code_in (slice_get m.codes b)
-
-abbrev pub env_in : Option ModuleCode → Env
-env_in None = n.nowhere
-env_in (Some m) = n.env m.env
-
-abbrev pub world : List ModuleCode → World
-world ms = record { env = λ m. env_in (numbered ms m); code = λ f. codes_in (numbered ms f.module) f.brick }
 
 -- ---- the tasks
 

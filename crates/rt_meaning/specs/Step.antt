@@ -9,25 +9,14 @@ use Rattle.rt_tree.specs.declared.store.Datum.{Datum}
 use Rattle.rt_tree.specs.declared.store.Datum.TheVariants.{Word, Reference}
 use Rattle.rt_tree.specs.declared.step.Step.{Step}
 use Rattle.rt_tree.specs.declared.step.Step.TheVariants as step
-use Rattle.rt_tree.specs.Tree.{Seq}
 use Rattle.rt_rules.specs.declared.service.Svc.TheVariants as svc
 use Rattle.rt_rules.specs.declared.service.Outcome.{Outcome}
 use Rattle.rt_rules.specs.declared.service.Outcome.TheVariants.{Go, Waits, Error, Ends}
-use Rattle.rt_meaning.specs.declared.request.Request.{Request}
-use Rattle.rt_meaning.specs.declared.request.Request.TheVariants.{Nothing, Takes, Puts, Rules}
-use Rattle.rt_meaning.specs.Stores.{Store, read, write, write_own, erp}
-use Rattle.rt_meaning.specs.Task.{Env, Item, Do, Fetch, Report, GiveUp, Leave, Begin, Serve, Next, Reads, Writes, Calls, Returns, Jumps, Leaps, Asks, Recovers, Errors, Lacks, next, from_label}
-
--- ---- the modules of a system
-
--- a procedure that has a body
-pub record Code : Type 0 where
-  pub body : Seq
-  pub size : ℕ  -- how many locals, parameters among them
-
-pub record World : Type 0 where
-  pub env : ℕ → Env  -- of a module
-  pub code : Proc → Option Code
+use Rattle.rt_work.specs.declared.request.Request.{Request}
+use Rattle.rt_work.specs.declared.request.Request.TheVariants.{Nothing, Takes, Puts, Rules}
+use Rattle.rt_work.specs.World.{Code, World}
+use Rattle.rt_work.specs.Stores.{Store, read, write, write_own, erp}
+use Rattle.rt_work.specs.Task.{Env, Item, Do, Fetch, Report, GiveUp, Leave, Begin, Serve, Next, Reads, Writes, Calls, Returns, Jumps, Leaps, Asks, Recovers, Errors, Lacks, next, from_label}
 
 -- ---- tasks
 

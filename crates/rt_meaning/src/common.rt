@@ -1,8 +1,8 @@
 //! What the tasks of a system have in common.
 
 use crate::kept::KeptRules;
-use crate::store::ModuleStore;
 use rt_words::List;
+use rt_work::ModuleStore;
 
 /// The rules, the store, and the number of bytes of the console that were taken.
 #[derive(Debug, Drop)]

@@ -11,3 +11,9 @@ pub fn steps_access_one_location()
     ensures reads { law.ReadsOne }
     ensures writes { law.WritesOne }
 {}
+
+/// A step of one task changes no control, activation or supplied data of another, and a tick none at all.
+pub fn steps_leave_other_tasks()
+    ensures steps { law.StepsLeaveOthers }
+    ensures ticks { law.TicksLeaveAll }
+{}

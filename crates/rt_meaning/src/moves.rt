@@ -2,23 +2,22 @@
 
 ghost use Rattle.std.specs.Prelude.{◌≡◌, ◌≢◌, ◌^◌, ◌<◌, ◌-◌, IfOk, OnOk, OnErr, Some, None, Option, ◌∷◌, [], true, false};
 ghost use Rattle.rt_rules.specs.Rules as rules;
-ghost use Rattle.rt_meaning.specs.Stores as stores;
-ghost use Rattle.rt_meaning.specs.Task as work;
+ghost use Rattle.rt_work.specs.Stores as stores;
+ghost use Rattle.rt_work.specs.Task as work;
+ghost use Rattle.rt_work.specs.World as world;
 ghost use Rattle.rt_meaning.specs.Step as step;
 ghost use Rattle.rt_meaning.specs.Run as run;
-ghost use Rattle.rt_meaning.specs.Nodes as n;
+ghost use Rattle.rt_work.specs.Nodes as n;
 ghost use Rattle.rt_meaning.specs.States as states;
 
 use crate::common::Common;
-use crate::copies::copy_values;
-use crate::request::Request;
-use crate::scene::{Item, Next, Scene};
-use crate::stack::Stack;
-use crate::store::{ModuleStore, read, write, write_own};
-use crate::system::{Act, Ending, ModuleCode, Task, entered, leapt, next_of};
+use crate::system::{Act, Ending, Task, entered, leapt, next_of};
 use rt_rules::{Outcome, Svc};
 use rt_tree::{Datum, Location, Proc, Step};
 use rt_words::{List, Memory};
+use rt_work::{
+    Item, ModuleCode, ModuleStore, Next, Request, Scene, Stack, copy_values, read, write, write_own,
+};
 use std::alloc::Global;
 use std::mem::replace;
 
@@ -83,7 +82,7 @@ fn calls(
     f: Proc,
     args: List<Datum>,
 ) -> Result<(), Memory>
-    ensures ok { OnOk result (states.doing task.new ≡ step.Doing (step.entered ((states.world modules.now).code f) f args) (states.with_scene task.old.act scene ∷ states.acts task.old.callers) task.old.own) }
+    ensures ok { OnOk result (states.doing task.new ≡ step.Doing (step.entered ((world.world modules.now).code f) f args) (states.with_scene task.old.act scene ∷ states.acts task.old.callers) task.old.own) }
     ensures going { task.new.ended ≡ task.old.ended }
     ensures err { OnErr result (task.new ≡ task.old) }
 {
@@ -150,7 +149,7 @@ fn leaps(
     locals: List<Datum>,
     label: u16,
 ) -> Result<(), Memory>
-    ensures ok { OnOk result (states.doing task.new ≡ step.Doing (step.with_todo (states.act task.old.act) (step.leapt ((states.world modules.now).code task.old.act.proc) label) [] locals) (states.acts task.old.callers) task.old.own) }
+    ensures ok { OnOk result (states.doing task.new ≡ step.Doing (step.with_todo (states.act task.old.act) (step.leapt ((world.world modules.now).code task.old.act.proc) label) [] locals) (states.acts task.old.callers) task.old.own) }
     ensures going { task.new.ended ≡ task.old.ended }
     ensures err { OnErr result (task.new ≡ task.old) }
 {
@@ -440,7 +439,7 @@ pub fn step_task(
     requires runs { rules.running common.old.rules ≡ Some number }
     requires stamp { common.old.rules.stamp < 2 ^ 63 }
     requires clock { common.old.rules.clock < 2 ^ 32 - 1 }
-    ensures moves { IfOk result (λ x. states.moved common.new task.new x ≡ run.moved (states.world modules.now) (states.task task.old) common.old.store common.old.rules common.old.taken number input) }
+    ensures moves { IfOk result (λ x. states.moved common.new task.new x ≡ run.moved (world.world modules.now) (states.task task.old) common.old.store common.old.rules common.old.taken number input) }
     ensures same { OnErr result (common.new ≡ common.old) }
     ensures err { OnErr result (task.new ≡ task.old) }
 {

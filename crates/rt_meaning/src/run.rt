@@ -1,10 +1,15 @@
 //! The source run of a state, for given placements of ticks, console input and number of steps.
 
-ghost use Rattle.std.specs.Prelude.{◌≡◌, ◌+◌, ◌*◌, ◌-◌, ◌^◌, ◌<◌, ◌≤◌, length, IfOk, true, Some, None, slice_get};
+ghost use Rattle.std.specs.Prelude.{◌≡◌, ◌+◌, ◌*◌, ◌-◌, ◌^◌, ◌<◌, ◌≤◌, All, length, IfOk, true, Some, None, slice_get};
 ghost use Rattle.rt_meaning.specs.Run as run;
 ghost use Rattle.rt_meaning.specs.Source as source;
+ghost use Rattle.rt_meaning.specs.Roots.{priorities};
+ghost use Rattle.rt_meaning.specs.Whole.{system_run};
+ghost use Rattle.rt_resolve.specs.Systems.{IsNumbered};
 
+use crate::begin::SourceTask;
 use crate::state::SourceState;
+use rt_tree::TypedModule;
 use rt_words::{Bytes, List, Memory};
 use std::alloc::Global;
 
@@ -108,4 +113,26 @@ pub fn source_run(
         }
     }
     Ok(Some(Reached { state, output }))
+}
+
+/// The run of a system of these modules from its start on: what it comes to is a function of its arguments.
+pub fn run_system(
+    alloc: Global,
+    modules: &[TypedModule],
+    tasks: &[SourceTask],
+    placements: &[u64],
+    input: &[u8],
+    steps: u64,
+) -> Result<Option<Reached>, Memory>
+    requires few_modules { length modules.now ≤ 64 }
+    requires numbered { All IsNumbered modules.now }
+    requires some { 1 ≤ length tasks.now }
+    requires few { length tasks.now ≤ 32 }
+    requires above_zero { All (λ p. 0 < p) (priorities tasks.now) }
+    requires stamp { 32 + 33 * (length placements.now + steps) < 2 ^ 63 }
+    requires clock { length placements.now < 2 ^ 32 - 1 }
+    ensures { IfOk result (λ r. source.reached r ≡ system_run modules.now tasks.now placements.now input.now steps) }
+{
+    let state = SourceState::start(alloc, modules, tasks)?;
+    source_run(alloc, state, placements, input, steps)
 }

@@ -6,11 +6,12 @@ use crate::begin::{SourceTask, new_tasks, priorities};
 use crate::common::Common;
 use crate::kept::KeptRules;
 use crate::moves::step_task;
-use crate::store::ModuleStore;
-use crate::system::{ModuleCode, Task};
+use crate::system::Task;
+use rt_resolve::{System, resolve};
 use rt_rules::State;
-use rt_tree::Step;
+use rt_tree::{Step, TypedModule};
 use rt_words::{List, Memory};
+use rt_work::{ModuleCode, ModuleStore};
 use std::alloc::Global;
 
 /// A source state: the modules of a system, and what the run has come to.
@@ -28,11 +29,33 @@ impl SourceState {
     ghost use Rattle.rt_meaning.specs.Conditions.{conditions};
     ghost use Rattle.rt_meaning.specs.Run as run;
     ghost use Rattle.rt_meaning.specs.Roots as roots;
-    ghost use Rattle.rt_meaning.specs.States as states;
+    ghost use Rattle.rt_work.specs.World as world;
     ghost use Rattle.rt_meaning.specs.Source as source;
+    ghost use Rattle.rt_meaning.specs.Whole.{beginning};
+    ghost use Rattle.rt_resolve.specs.Systems.{IsNumbered};
+    ghost use Rattle.rt_resolve.specs.Systems as systems;
 
-    /// The start of a system whose modules are resolved: each task is about to call its root.
-    pub fn of_code(
+    /// The start of a system of these modules: its store has the starts of the data bricks and the strings, and each task is
+    /// about to call its root. Bricks that are bound to nothing lead to the supplied procedure 0.
+    pub fn start(
+        alloc: Global,
+        modules: &[TypedModule],
+        tasks: &[SourceTask],
+    ) -> Result<SourceState, Memory>
+        requires few_modules { length modules.now ≤ 64 }
+        requires numbered { All IsNumbered modules.now }
+        requires some { 1 ≤ length tasks.now }
+        requires few { length tasks.now ≤ 32 }
+        requires above_zero { All (λ p. 0 < p) (roots.priorities tasks.now) }
+        ensures state { IfOk result (λ s. source.state_of s ≡ beginning modules.now tasks.now) }
+        ensures world { IfOk result (λ s. source.world_of s ≡ systems.world modules.now) }
+    {
+        let System { modules, store } = resolve(alloc, modules)?;
+        SourceState::of_code(alloc, modules, store, tasks)
+    }
+
+    // The start of a system whose modules are resolved.
+    fn of_code(
         alloc: Global,
         modules: List<ModuleCode>,
         store: List<ModuleStore>,
@@ -42,7 +65,7 @@ impl SourceState {
         requires few { length tasks.now ≤ 32 }
         requires above_zero { All (λ p. 0 < p) (roots.priorities tasks.now) }
         ensures state { IfOk result (λ s. source.state_of s ≡ run.start store (roots.roots tasks.now) (roots.priorities tasks.now)) }
-        ensures world { IfOk result (λ s. source.world_of s ≡ states.world modules) }
+        ensures world { IfOk result (λ s. source.world_of s ≡ world.world modules) }
     {
         let priorities = priorities(alloc, tasks)?;
         let rules = KeptRules::new(alloc, priorities.as_slice())?;

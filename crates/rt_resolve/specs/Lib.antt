@@ -1,0 +1,4 @@
+pub mod Bindings
+pub mod Trees
+pub mod Starting
+pub mod Systems

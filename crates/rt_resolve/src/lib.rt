@@ -1,0 +1,13 @@
+//! From typed modules to what the meaning runs: trees, bindings, and the starting store.
+#![tactic(auto)]
+
+mod bindings;
+mod join;
+mod share;
+mod spot;
+mod starting;
+mod statements;
+mod system;
+mod values;
+
+pub use system::{System, are_numbered, resolve};

@@ -1,0 +1,5 @@
+use Rattle.std.proofs.Common.{ℕ, length}
+use Rattle.rt_work.proofs.control.+same_path.Given as goal
+
+abbrev pub decreases-same_path : goal.decreases-same_path
+decreases-same_path l = length l.p.now

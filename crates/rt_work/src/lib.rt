@@ -1,0 +1,27 @@
+//! What one activation of a procedure does: its tree, its store, its invisible work, and its next visible step.
+#![tactic(auto)]
+
+mod code;
+mod control;
+mod copies;
+mod labels;
+mod node;
+mod numbers;
+mod request;
+mod scene;
+mod stack;
+mod store;
+mod trees;
+mod values;
+mod work;
+
+pub use code::{Code, ModuleCode, code_of, module_at};
+pub use copies::{copy_scene, copy_values};
+pub use labels::from_label;
+pub use node::{CondNode, LabelsNode, PathNode, SeqNode, StmtNode, TermNode, TermsNode};
+pub use numbers::{Share, divided, holds, one_of, turns, turns_to, two_of};
+pub use request::Request;
+pub use scene::{Env, Item, Next, Scene};
+pub use stack::Stack;
+pub use store::{ModuleStore, read, write, write_own};
+pub use work::advance;
