@@ -31,6 +31,9 @@ fn spelled(alloc: Global, mode: &Mode) -> Result<String, Fail> {
 }
 
 fn parsed(alloc: Global, text: &[u8]) -> Result<WrittenMode, Fail> {
+    if text.len() > 4194304 {
+        return Err("too long".into());
+    }
     let all = items(alloc, text)?;
     let context = Context {
         total: all.len(),
