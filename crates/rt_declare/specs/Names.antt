@@ -8,8 +8,8 @@ use Rattle.rt_bricks.specs.declared.tree.DataLine.{DataLine}
 use Rattle.rt_bricks.specs.declared.tree.Declaration.{Declaration}
 use Rattle.rt_bricks.specs.declared.tree.Declaration.TheVariants as declares
 use Rattle.rt_bricks.specs.declared.tree.Fields.{Fields}
-use Rattle.rt_exprs.specs.declared.fault.CheckFault.{CheckFault}
-use Rattle.rt_exprs.specs.declared.fault.CheckFault.TheVariants as fault
+use Rattle.rt_operands.specs.declared.fault.CheckFault.{CheckFault}
+use Rattle.rt_operands.specs.declared.fault.CheckFault.TheVariants as fault
 use Rattle.rt_declare.specs.declared.names.Declared.{Declared}
 use Rattle.rt_declare.specs.declared.names.Declared.TheVariants as what
 
@@ -115,3 +115,7 @@ scope ds = counting [] (names ds)
 
 abbrev pub name_faults : List Declaration → List CheckFault
 name_faults ds = twice [] (names ds)
+
+-- The names of a record's fields are a scope of their own: the faults of the second of two fields of one name.
+abbrev pub second_fields : List Fields → List CheckFault
+second_fields fs = twice [] (fields_names 0 0 fs)

@@ -7,8 +7,8 @@ ghost use Rattle.rt_written.specs.Verdicts.{with_faults};
 
 use indexmap::IndexMap;
 use rt_bricks::{DataItem, DataLine, Declaration, Fields};
-use rt_exprs::CheckFault;
 use rt_grammar::Ident;
+use rt_operands::CheckFault;
 use rt_words::Memory;
 use rt_written::note;
 use std::alloc::Global;
@@ -53,6 +53,18 @@ pub fn declared_names<'m>(
     };
     declare_all(&mut names, declarations)?;
     Ok(names)
+}
+
+/// The fault that counts of all fields of a record whose names stand there once more.
+pub fn second_fields(alloc: Global, fields: &[Fields]) -> Result<Option<CheckFault>, Memory>
+    ensures { IfOk result (λ f. f ≡ with_faults None (spec.second_fields fields.now)) }
+{
+    let mut names = ModuleNames {
+        table: IndexMap::new(alloc),
+        fault: None,
+    };
+    add_fields(&mut names, 0, fields)?;
+    Ok(names.fault)
 }
 
 #[tactic(auto, using(crate::proofs::Adding::adding))]

@@ -1,10 +1,5 @@
-pub mod Levels
-pub mod Joins
-pub mod Trees
-pub mod Counting
-pub mod Complete
+mod Trees
+mod Complete
 pub mod Sound
-pub mod Judged
+mod Judged
 pub mod Others
-pub mod Same
-pub mod Following

@@ -11,22 +11,24 @@ use Rattle.rt_expression.specs.declared.tree.Cond.TheOpen.{Cond-F}
 use Rattle.rt_expression.specs.declared.tree.Cond.TheFolds.{ind-Cond}
 use Rattle.rt_expression.specs.declared.tree.Rel.{Rel}
 use Rattle.rt_modes.specs.declared.mode.Mode.{Mode}
-use Rattle.rt_tree.specs.declared.statement.Test.{Test}
-use Rattle.rt_tree.specs.declared.statement.Test.TheVariants as tests
-use Rattle.rt_tree.specs.declared.value.Place.{Place}
-use Rattle.rt_tree.specs.declared.value.Value.{Value}
-use Rattle.rt_exprs.specs.declared.fault.CheckFault.{CheckFault}
-use Rattle.rt_exprs.specs.declared.fault.CheckFault.TheVariants as fault
-use Rattle.rt_exprs.specs.declared.operand.Standing.TheVariants as standing
-use Rattle.rt_exprs.specs.declared.scope.Scope.{Scope}
-use Rattle.rt_exprs.specs.Modes.{Want}
-use Rattle.rt_exprs.specs.Outcomes.{Outcome, ◌>>=◌, Gives, both, after, is_before}
-use Rattle.rt_exprs.specs.Operands.{Found, place, suits, fits}
-use Rattle.rt_exprs.specs.Judging.{judged, judged_chain, found, find, is_brick, target, assigned, val_target, val, val_by, target_of, alone, called_is, tested, all_from, compares, compare, compare_by, made_rel}
+use Rattle.rt_nodes.specs.declared.statement.Test.{Test}
+use Rattle.rt_nodes.specs.declared.statement.Test.TheVariants as tests
+use Rattle.rt_nodes.specs.declared.value.Place.{Place}
+use Rattle.rt_nodes.specs.declared.value.Value.{Value}
+use Rattle.rt_operands.specs.declared.fault.CheckFault.{CheckFault}
+use Rattle.rt_operands.specs.declared.fault.CheckFault.TheVariants as fault
+use Rattle.rt_operands.specs.declared.operand.Standing.TheVariants as standing
+use Rattle.rt_operands.specs.declared.scope.Scope.{Scope}
+use Rattle.rt_operands.specs.Modes.{Want}
+use Rattle.rt_operands.specs.Outcomes.{Outcome, ◌>>=◌, Gives, both, after, is_before}
+use Rattle.rt_operands.specs.Operands.{Found, place, suits, fits}
+use Rattle.rt_operands.specs.Names.{find}
+use Rattle.rt_exprs.specs.Judging.{judged, judged_chain, found, is_brick, target, assigned, val_target, val, val_by, target_of, alone, called_is, tested, all_from, compares, compare, compare_by, made_rel}
 use Rattle.rt_exprs.specs.Fitting as f
-use Rattle.rt_exprs.specs.Fitting.{IsBy, ChainIs, FaultIn, FaultInChain, FitsBy, Unfit, IsBrickName, Assigns, NotAssigned, AssignsVal, NotAssignedVal, CallIs, NoCall, TestIs, TestsAre, FaultInTest, FaultAmong, Settles, IsAnswered, IsAnsweredAs}
+use Rattle.rt_operands.specs.Outcomes.{Settles, IsAnswered, IsAnsweredAs}
+use Rattle.rt_exprs.specs.Fitting.{IsBy, ChainIs, FaultIn, FaultInChain, FitsBy, Unfit, IsBrickName, Assigns, NotAssigned, AssignsVal, NotAssignedVal, CallIs, NoCall, TestIs, TestsAre, FaultInTest, FaultAmong}
 use Rattle.rt_exprs.proofs.Trees.{opened_or, opened_and, opened_compare}
-use Rattle.rt_exprs.proofs.Counting.{Stops, exactly, moved, stops_then, stops_both_left, stops_both_right, stops_after_left, stops_after_right}
+use Rattle.rt_operands.proofs.Counting.{Stops, exactly, moved, stops_then, stops_both_left, stops_both_right, stops_after_left, stops_after_right}
 use Rattle.rt_exprs.proofs.Complete.{is_judged, chain_judged, fault_stops, chain_stops, fits_judged, unfit_stops}
 use Rattle.rt_exprs.proofs.Judged.{answer_holds, answer_as, answer_only, answer_settles}
 use Rattle.rt_exprs.proofs.Sound.{SoundIs, SoundChain, SoundFit, sound_fit, expr_sound, whole_chain_sound, EachIs}
@@ -34,7 +36,7 @@ use Rattle.rt_exprs.proofs.Sound.{SoundIs, SoundChain, SoundFit, sound_fit, expr
 -- ---- targets
 
 module _ (s : Scope) (c : Chain) where
-  abbrev SoundTarget : Outcome (Place × Mode) → Type 0
+  abbrev pub SoundTarget : Outcome (Place × Mode) → Type 0
   SoundTarget (Ok x) = Assigns s c x
   SoundTarget (Err g) = NotAssigned s c g
 
@@ -80,7 +82,7 @@ module _ (s : Scope) (c : Chain) where
 -- ---- VAL
 
 module _ (s : Scope) (at : At) (c : Chain) where
-  abbrev SoundVal : Outcome (Place × Mode) → Type 0
+  abbrev pub SoundVal : Outcome (Place × Mode) → Type 0
   SoundVal (Ok x) = AssignsVal s at c x
   SoundVal (Err g) = NotAssignedVal s at c g
 
@@ -126,7 +128,7 @@ module _ (s : Scope) (at : At) (c : Chain) where
 -- ---- calls
 
 module _ (s : Scope) (c : Chain) where
-  abbrev SoundCall : Outcome Value → Type 0
+  abbrev pub SoundCall : Outcome Value → Type 0
   SoundCall (Ok x) = CallIs s c x
   SoundCall (Err g) = NoCall s c g
 
@@ -202,11 +204,11 @@ mutual
   tests_stop {s = s} {g = g} so_far (f.first_test {c = c} {cs = cs} h) = all_stop (after so_far (tested s c)) (map (tested s) cs) g (stops_after_right so_far (tested s c) g (test_stops h))
   tests_stop {s = s} so_far (f.later_test {c = c} h) = tests_stop (after so_far (tested s c)) h
 
-abbrev SoundTest : Scope → Cond → Outcome Test → Type 0
+abbrev pub SoundTest : Scope → Cond → Outcome Test → Type 0
 SoundTest s c (Ok t) = TestIs s c t
 SoundTest s c (Err g) = FaultInTest s c g
 
-abbrev Tested : Scope → Cond → Type 0
+abbrev pub Tested : Scope → Cond → Type 0
 Tested s c = SoundTest s c (tested s c)
 
 pick : (Q : CheckFault → Type 0) (g h : CheckFault) (c : Bool) → Q g → Q h → Q (if c then g else h)

@@ -1,5 +1,5 @@
 -- Which value an expression is where a mode is wanted, and where its faults stand: one case for each rule.
-use Rattle.std.specs.Prelude.{◌≡◌, ◌≢◌, ℕ, ◌==◌, ◌<◌, Bool, true, false, List, [], ◌∷◌, length, Option, Some, None, Result, Ok, Err, position, IsTrue, ◌⊎◌}
+use Rattle.std.specs.Prelude.{◌≡◌, ◌≢◌, ℕ, ◌==◌, ◌<◌, Bool, true, false, List, [], ◌∷◌, length, Option, Some, None, Result, Ok, Err, position}
 use Rattle.rt_grammar.specs.declared.at.At.{At}
 use Rattle.rt_grammar.specs.declared.at.Ident.{Ident}
 use Rattle.rt_expression.specs.declared.tree.Op1.{Op1}
@@ -12,24 +12,24 @@ use Rattle.rt_expression.specs.declared.tree.Cond.{Cond, out-Cond}
 use Rattle.rt_expression.specs.declared.tree.Cond.TheOpen.{Cond-F}
 use Rattle.rt_expression.specs.declared.tree.Rel.{Rel}
 use Rattle.rt_modes.specs.declared.mode.Mode.{Mode}
-use Rattle.rt_tree.specs.declared.statement.Test.{Test}
-use Rattle.rt_tree.specs.declared.statement.Test.TheVariants as tests
-use Rattle.rt_tree.specs.declared.operators.Op1.{Op1 as Made1}
-use Rattle.rt_tree.specs.declared.value.Callee.{Callee}
-use Rattle.rt_tree.specs.declared.value.Place.{Place}
-use Rattle.rt_tree.specs.declared.value.Place.TheVariants as places
-use Rattle.rt_tree.specs.declared.value.Value.{Value}
-use Rattle.rt_tree.specs.declared.value.Value.TheVariants as values
-use Rattle.rt_exprs.specs.declared.fault.CheckFault.{CheckFault}
-use Rattle.rt_exprs.specs.declared.fault.CheckFault.TheVariants as fault
-use Rattle.rt_exprs.specs.declared.operand.Base.TheVariants as base
-use Rattle.rt_exprs.specs.declared.operand.Standing.{Standing}
-use Rattle.rt_exprs.specs.declared.operand.Standing.TheVariants as standing
-use Rattle.rt_exprs.specs.declared.scope.Scope.{Scope}
-use Rattle.rt_exprs.specs.Modes.{Want, basic, want}
-use Rattle.rt_exprs.specs.Outcomes.{is_before}
-use Rattle.rt_exprs.specs.Operands.{Is, number, text, place, computed, Found, named, field_of, suits}
-use Rattle.rt_exprs.specs.Judging.{found, find, record_in, rows, calls, neither, reach, called, target_of, array_in, base_in, frac_or_int, takes, gives, made_monadic, of_int, right_takes, made_dyadic, is_brick, assigned, called_is, compares, made_rel}
+use Rattle.rt_nodes.specs.declared.statement.Test.{Test}
+use Rattle.rt_nodes.specs.declared.statement.Test.TheVariants as tests
+use Rattle.rt_nodes.specs.declared.operators.Op1.{Op1 as Made1}
+use Rattle.rt_nodes.specs.declared.value.Callee.{Callee}
+use Rattle.rt_nodes.specs.declared.value.Place.{Place}
+use Rattle.rt_nodes.specs.declared.value.Place.TheVariants as places
+use Rattle.rt_nodes.specs.declared.value.Value.{Value}
+use Rattle.rt_nodes.specs.declared.value.Value.TheVariants as values
+use Rattle.rt_operands.specs.declared.fault.CheckFault.{CheckFault}
+use Rattle.rt_operands.specs.declared.fault.CheckFault.TheVariants as fault
+use Rattle.rt_operands.specs.declared.operand.Base.TheVariants as base
+use Rattle.rt_operands.specs.declared.operand.Standing.{Standing}
+use Rattle.rt_operands.specs.declared.operand.Standing.TheVariants as standing
+use Rattle.rt_operands.specs.declared.scope.Scope.{Scope}
+use Rattle.rt_operands.specs.Modes.{Want, basic, want}
+use Rattle.rt_operands.specs.Operands.{Is, number, text, place, computed, Found, named, field_of, suits}
+use Rattle.rt_operands.specs.Names.{find}
+use Rattle.rt_exprs.specs.Judging.{found, record_in, rows, calls, neither, reach, called, target_of, array_in, base_in, frac_or_int, takes, gives, made_monadic, of_int, right_takes, made_dyadic, is_brick, assigned, called_is, compares, made_rel}
 
 -- the number of the string that begins at an item
 abbrev pub string_at : Scope → At → Option ℕ
@@ -148,25 +148,6 @@ Fits s e m x = FitsBy s e (want m) x
 -- a fault that stands in an expression where a mode is wanted
 abbrev pub Faulty : Scope → Expr → Mode → CheckFault → Type 0
 Faulty s e m g = Unfit s e (want m) g
-
--- The fault that counts of those that stand: that of the least item, and of those of that item the least number.
-pub record IsLeast (Stands : CheckFault → Type 0) (g : CheckFault) : Type 0 where
-  pub stands : Stands g
-  pub least : (h : CheckFault) → Stands h → IsTrue (is_before g h)
-
--- A fault that is answered: want of memory, or the fault that counts of those that stand.
-abbrev pub Settles : (CheckFault → Type 0) → CheckFault → Type 0
-Settles Stands fault.Memory = Unit {0}
-Settles Stands g = IsLeast Stands g
-
--- what holds is answered, unless memory runs out
-abbrev pub IsAnswered : {A : Type 0} → A → Result A CheckFault → Type 0
-IsAnswered x r = (r ≡ Ok x) ⊎ (r ≡ Err fault.Memory)
-
--- the same of an answer that stands for it
-abbrev pub IsAnsweredAs : {X A : Type 0} → (X → A) → A → Result X CheckFault → Type 0
-IsAnsweredAs view x (Ok y) = view y ≡ x
-IsAnsweredAs view x (Err g) = g ≡ fault.Memory
 
 -- ---- places that are assigned, and calls that stand alone
 

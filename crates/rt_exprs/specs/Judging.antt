@@ -1,10 +1,6 @@
 -- What each form of expression, chain and condition is, by its parts; and the first fault.
-use Rattle.std.specs.Prelude.{ℕ, ◌==◌, nat_lt, Bool, true, false, if◌then◌else◌, List, [], ◌∷◌, length, Option, Some, None, Ok, Err, position}
+use Rattle.std.specs.Prelude.{ℕ, ◌==◌, Bool, true, false, if◌then◌else◌, List, [], ◌∷◌, length, Option, Some, None, Ok, Err}
 use Rattle.std.specs.Option.{option_copied}
-use Rattle.std.specs.Str.{bytes_eq}
-use Rattle.std.specs.Map.{lookup}
-use Rattle.indexmap.specs.IndexMap.{IndexMap}
-use denote.Bor.{Bor}
 use Rattle.rt_grammar.specs.declared.at.At.{At}
 use Rattle.rt_grammar.specs.declared.at.Ident.{Ident}
 use Rattle.rt_expression.specs.declared.tree.Op1.{Op1}
@@ -25,43 +21,34 @@ use Rattle.rt_modes.specs.declared.mode.Mode.{Mode, out-Mode}
 use Rattle.rt_modes.specs.declared.mode.Mode.TheOpen.{Mode-F}
 use Rattle.rt_modes.specs.declared.mode.Mode.TheVariants as mode
 use Rattle.rt_modes.specs.declared.mode.RecordDef.{RecordDef}
-use Rattle.rt_tree.specs.declared.operators.Op1.{Op1 as Made1}
-use Rattle.rt_tree.specs.declared.operators.Op1.TheVariants as one
-use Rattle.rt_tree.specs.declared.operators.Op2.{Op2 as Made2}
-use Rattle.rt_tree.specs.declared.operators.Op2.TheVariants as two
-use Rattle.rt_tree.specs.declared.operators.Rel.{Rel as MadeRel}
-use Rattle.rt_tree.specs.declared.operators.Rel.TheVariants as made
-use Rattle.rt_tree.specs.declared.statement.Test.{Test}
-use Rattle.rt_tree.specs.declared.statement.Test.TheVariants as tests
-use Rattle.rt_tree.specs.declared.value.Callee.{Callee}
-use Rattle.rt_tree.specs.declared.value.Callee.TheVariants as callees
-use Rattle.rt_tree.specs.declared.value.Place.{Place}
-use Rattle.rt_tree.specs.declared.value.Place.TheVariants as places
-use Rattle.rt_tree.specs.declared.value.Value.{Value}
-use Rattle.rt_tree.specs.declared.value.Value.TheVariants as values
-use Rattle.rt_exprs.specs.declared.fault.CheckFault.TheVariants as fault
+use Rattle.rt_nodes.specs.declared.operators.Op1.{Op1 as Made1}
+use Rattle.rt_nodes.specs.declared.operators.Op1.TheVariants as one
+use Rattle.rt_nodes.specs.declared.operators.Op2.{Op2 as Made2}
+use Rattle.rt_nodes.specs.declared.operators.Op2.TheVariants as two
+use Rattle.rt_nodes.specs.declared.operators.Rel.{Rel as MadeRel}
+use Rattle.rt_nodes.specs.declared.operators.Rel.TheVariants as made
+use Rattle.rt_nodes.specs.declared.statement.Test.{Test}
+use Rattle.rt_nodes.specs.declared.statement.Test.TheVariants as tests
+use Rattle.rt_nodes.specs.declared.value.Callee.{Callee}
+use Rattle.rt_nodes.specs.declared.value.Callee.TheVariants as callees
+use Rattle.rt_nodes.specs.declared.value.Place.{Place}
+use Rattle.rt_nodes.specs.declared.value.Place.TheVariants as places
+use Rattle.rt_nodes.specs.declared.value.Value.{Value}
+use Rattle.rt_nodes.specs.declared.value.Value.TheVariants as values
+use Rattle.rt_operands.specs.declared.fault.CheckFault.TheVariants as fault
 use Rattle.rt_exprs.specs.declared.links.Reach.{Reach as Reached}
 use Rattle.rt_exprs.specs.declared.links.Reach.TheVariants as reaches
-use Rattle.rt_exprs.specs.declared.operand.Base.{Base}
-use Rattle.rt_exprs.specs.declared.operand.Base.TheVariants as base
-use Rattle.rt_exprs.specs.declared.operand.Standing.{Standing}
-use Rattle.rt_exprs.specs.declared.operand.Standing.TheVariants as standing
-use Rattle.rt_exprs.specs.declared.scope.Meaning.{Meaning}
-use Rattle.rt_exprs.specs.declared.scope.Meaning.TheVariants as meaning
-use Rattle.rt_exprs.specs.declared.scope.Scope.{Scope}
-use Rattle.rt_exprs.specs.Modes.{Want, basic, ref, row, want, ref_of, record_of, through, array_at, base_of}
-use Rattle.rt_exprs.specs.Outcomes.{Outcome, ◌>>=◌, both, after, or_fault}
-use Rattle.rt_exprs.specs.Operands.{Is, number, text, brick, place, loop, result, computed, done, Found, or_else, named, field_of, suits, fits}
-
--- ---- names
-
--- the meaning of a name in the innermost level that has it
-unfoldable pub find_in : {S : Type 0} → List (IndexMap (Bor (List ℕ)) Meaning S) → List ℕ → Option Meaning
-find_in [] name = None
-find_in (level ∷ levels) name = or_else (lookup (λ k. bytes_eq name k.now) level.entries) (find_in levels name)
-
-abbrev pub find : Scope → List ℕ → Option Meaning
-find s name = find_in s.levels.now name
+use Rattle.rt_operands.specs.declared.operand.Base.{Base}
+use Rattle.rt_operands.specs.declared.operand.Base.TheVariants as base
+use Rattle.rt_operands.specs.declared.operand.Standing.{Standing}
+use Rattle.rt_operands.specs.declared.operand.Standing.TheVariants as standing
+use Rattle.rt_operands.specs.declared.scope.Meaning.{Meaning}
+use Rattle.rt_operands.specs.declared.scope.Meaning.TheVariants as meaning
+use Rattle.rt_operands.specs.declared.scope.Scope.{Scope}
+use Rattle.rt_operands.specs.Modes.{Want, basic, ref, row, want, ref_of, record_of, through, array_at, base_of}
+use Rattle.rt_operands.specs.Outcomes.{Outcome, ◌>>=◌, both, after, or_fault}
+use Rattle.rt_operands.specs.Names.{find, text_at}
+use Rattle.rt_operands.specs.Operands.{Is, number, text, brick, place, loop, result, computed, done, Found, named, field_of, suits, fits}
 
 -- ---- links
 
@@ -306,14 +293,6 @@ abbrev pub dyadic : At → Op2 → Outcome Found → Outcome Found → Outcome F
 dyadic at op a c = if of_int op then computes at op base.Int (both (fits a (basic base.Int)) (fits c (basic base.Int))) else by_left at op a c
 
 -- ---- the whole
-
--- A string that begins at an item: its number, of 16 bits, is its place among the module's strings.
-abbrev pub text_by : At → Option ℕ → Outcome Found
-text_by at None = Err (fault.WrongMode at)
-text_by at (Some n) = if nat_lt n 65536 then Ok (found at (text n)) else Err (fault.WrongMode at)
-
-abbrev pub text_at : Scope → At → Outcome Found
-text_at s at = text_by at (position (λ x. x == at.item) s.strings.now.keys)
 
 -- a chain: its name, then its links
 abbrev pub chained : Scope → List ℕ → At → List (Found → Outcome Found) → Outcome Found

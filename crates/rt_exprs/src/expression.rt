@@ -1,23 +1,22 @@
 //! Expressions and chains.
 
 ghost use Rattle.std.specs.Prelude.{◌≡◌, map, IfOk, IfErr};
-ghost use Rattle.rt_exprs.specs.Fitting.{Fits, Faulty, Settles, IsAnswered};
+ghost use Rattle.rt_operands.specs.Outcomes.{Settles, IsAnswered};
+ghost use Rattle.rt_exprs.specs.Fitting.{Fits, Faulty};
 ghost use Rattle.rt_exprs.specs.Judging as spec;
-ghost use Rattle.rt_exprs.specs.Modes.{want};
-ghost use Rattle.rt_exprs.specs.Operands.{found_of, want_of};
-ghost use Rattle.rt_exprs.specs.Outcomes.{Gives};
+ghost use Rattle.rt_operands.specs.Modes.{want};
+ghost use Rattle.rt_operands.specs.Operands.{found_of, want_of};
+ghost use Rattle.rt_operands.specs.Outcomes.{Gives};
 
-use crate::fault::{CheckFault, after};
 use crate::links::{Reach, called, dot, element, reached, val};
-use crate::modes::wanted as wanted_of;
-use crate::names::{find, name_at, text_at};
-use crate::operand::{Base, Meant, Operand, Wanted};
 use crate::operators::{dyadic, monadic};
-use crate::scope::Scope;
-use crate::suit::fits;
 use rt_expression::{Chain, Expr, Link};
 use rt_grammar::At;
 use rt_modes::Mode;
+use rt_operands::{
+    Base, CheckFault, Meant, Operand, Scope, Wanted, after, find, fits, name_at, text_at,
+    wanted as wanted_of,
+};
 use rt_tree::Value;
 use rt_words::List;
 use std::alloc::Global;

@@ -4,29 +4,19 @@
 //! `specs/Fitting.antt` has the definition: relations with one case for each rule, of what fits and of where
 //! faults stand. [`fit`], [`fit_target`], [`fit_val_target`], [`fit_call`] and [`fit_condition`] answer what
 //! fits, or else the fault of the least item, and of those of that item the one of least number;
-//! [`one_value`] says that at most one value fits. `specs/Modes.antt`, `specs/Operands.antt` and
-//! `specs/Judging.antt` have the rules of one operand and of one link, and the whole as a function on trees,
-//! against which the code is proved; `specs/Following.antt` says by the REFs in front of a mode what a value
-//! is where another mode is wanted ([`references_are_followed`]).
+//! [`one_value`] says that at most one value fits. `specs/Judging.antt` has the rule of each link and the whole as
+//! a function on trees, against which the code is proved; the rules of one operand are those of `rt_operands`.
 #![tactic(auto)]
 
 mod condition;
 mod expression;
-mod fault;
 mod links;
-mod modes;
-mod names;
-mod operand;
 mod operators;
-mod scope;
-mod suit;
 mod target;
 
 pub use condition::fit_condition;
 pub use expression::{fit, one_value};
-pub use fault::CheckFault;
-pub use modes::references_are_followed;
-pub use scope::{Level, Meaning, Scope};
+pub use rt_operands::{CheckFault, Level, Meaning, Scope, references_are_followed};
 pub use target::{fit_call, fit_target, fit_val_target};
 
 #[cfg(test)]

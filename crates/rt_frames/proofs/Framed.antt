@@ -1,21 +1,21 @@
 -- The frame that a walk gives.
-use Rattle.std.proofs.Common.{◌≡◌, ℕ, ◌+◌, ◌-◌, max, Bool, true, false, ◌||◌, if◌then◌else◌, List, [], ◌++◌, length, Option, Some, slice_get, refl, sym, ap, ◌∙◌, arith}
+use Rattle.std.proofs.Common.{◌≡◌, ℕ, max, false, [], length, Option, Some, slice_get, refl, sym, ◌∙◌, arith}
 use Rattle.rt_modes.specs.declared.mode.Mode.{Mode}
-use Rattle.rt_tree.specs.declared.brick.Brick.{Brick}
-use Rattle.rt_tree.specs.declared.brick.BrickSort.TheVariants as sort
-use Rattle.rt_tree.specs.declared.brick.ModuleParts.{ModuleParts}
-use Rattle.rt_tree.specs.declared.brick.ProcBody.{ProcBody}
+use Rattle.rt_nodes.specs.declared.brick.Brick.{Brick}
+use Rattle.rt_nodes.specs.declared.brick.BrickSort.TheVariants as sort
+use Rattle.rt_nodes.specs.declared.brick.ModuleParts.{ModuleParts}
+use Rattle.rt_nodes.specs.declared.brick.ProcBody.{ProcBody}
 use Rattle.rt_tree.specs.Depth.{sequence_depth, sequence_recovers}
-use Rattle.rt_tree.specs.Modules.{scope_of, with_locals}
-use Rattle.rt_tree.specs.Scopes.{Scope}
+use Rattle.rt_nodes.specs.Scopes.{scope_of, with_locals}
+use Rattle.rt_nodes.specs.Scopes.{Scope}
 use Rattle.rt_tree.specs.Statements.{body_tree}
-use Rattle.rt_tree.specs.Within.{parameters_of, tree_of}
+use Rattle.rt_tree.specs.Within.{parameters_of}
 use Rattle.rt_frames.specs.declared.frame.Frame.{Frame}
 use Rattle.rt_frames.specs.declared.statements.Walk.{Walk}
 use Rattle.rt_frames.specs.Frames.{body_frame, frame, frame_by, words_of}
 use Rattle.rt_frames.specs.Points.{body_points}
 use Rattle.rt_frames.specs.Walks.{body_part}
-use Rattle.rt_frames.proofs.Gathered.{Takes, plus, body_takes}
+use Rattle.rt_frames.proofs.Gathered.{body_takes}
 
 abbrev nothing_yet : Walk
 nothing_yet = record { deep = 0; recovers = false; calls = [] }

@@ -3,3 +3,6 @@ mod Fused
 mod Gathered
 mod Passed
 mod Reached
+mod Spread
+mod Under
+mod Within

@@ -1,12 +1,11 @@
 -- What is known of arguments that were walked one after the other.
-use Rattle.std.proofs.Common.{◌≡◌, ◌==◌, ◌≤◌, drop, map, ℕ, suc, ◌+◌, max, Bool, true, false, ◌&&◌, List, [], ◌∷◌, ◌++◌, length, Option, Some, None, refl, sym, ap, ◌∙◌, arith, append_assoc}
+use Rattle.std.proofs.Common.{◌≡◌, ◌==◌, ◌≤◌, drop, map, ℕ, suc, ◌+◌, max, Bool, true, false, ◌&&◌, List, [], ◌∷◌, ◌++◌, length, Option, refl, sym, ap, ◌∙◌, arith, append_assoc}
 use Rattle.std.proofs.lemmas.Bool.Decides.{nat_tests}
 use Rattle.std.proofs.lemmas.List.{append-nil, drop_all}
 use Rattle.rt_modes.specs.declared.mode.Mode.{Mode}
-use Rattle.rt_tree.specs.declared.value.Value.{Value}
+use Rattle.rt_nodes.specs.declared.value.Value.{Value}
 use Rattle.rt_tree.specs.Depth.{depth, arguments_depth}
-use Rattle.rt_tree.specs.Typing.{all_suit, suits, terms_of}
-use Rattle.rt_frames.specs.declared.frame.CallPoint.{CallPoint}
+use Rattle.rt_nodes.specs.Typing.{all_suit, suits, terms_of}
 use Rattle.rt_frames.specs.Measures.{Passing, pass_one, pass_all, is_none, first_suits, after_first}
 use Rattle.rt_frames.specs.Points.{ValuePoints, values_of, arguments_points}
 

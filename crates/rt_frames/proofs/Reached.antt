@@ -1,35 +1,34 @@
 -- What the code keeps of places and values is that of their plain trees.
-use Rattle.std.proofs.Common.{◌≡◌, ℕ, suc, ◌+◌, max, Bool, List, ◌++◌, length, Option, Some, None, map, refl, sym, ap, ◌∙◌, subst, arith, append_assoc}
+use Rattle.std.proofs.Common.{◌≡◌, ℕ, suc, ◌+◌, max, List, ◌++◌, length, Option, Some, None, map, refl, sym, ap, ◌∙◌, subst, arith, append_assoc}
 use Rattle.std.proofs.lemmas.List.{length-map}
 use Rattle.rt_modes.specs.declared.mode.Mode.{Mode, out-Mode}
 use Rattle.rt_modes.specs.declared.mode.Mode.TheOpen.{Mode-F}
-use Rattle.rt_tree.specs.declared.operators.Op2.{Op2}
-use Rattle.rt_tree.specs.declared.value.Callee.{Callee}
-use Rattle.rt_tree.specs.declared.value.Callee.TheOpen.{Place-F, Value-F}
-use Rattle.rt_tree.specs.declared.value.Place.{Place, out-Place}
-use Rattle.rt_tree.specs.declared.value.Place as places
-use Rattle.rt_tree.specs.declared.value.Place.TheVariants as place
-use Rattle.rt_tree.specs.declared.value.Value.{Value, out-Value}
-use Rattle.rt_tree.specs.declared.value.Value as values
-use Rattle.rt_tree.specs.declared.value.Value.TheVariants as value
-use Rattle.rt_tree.specs.Code.{mode_found, place_found}
-use Rattle.rt_tree.specs.Depth.{depth, address_depth, above, behind}
-use Rattle.rt_tree.specs.Scopes.{Scope, with}
-use Rattle.rt_tree.specs.Tree.{Term, Path}
-use Rattle.rt_tree.specs.Typing.{Valued, Placed, Found, Variable, Loop, Shared, Private, Row, Spot, OnLocal, OnPath, OnRow, field_found, field_in, field_path, element_found, element_in, element_path, read_mode, reference_mode, length_mode, read_tree, reference_tree, reference_path, length_tree, length_path, mode_at, one_place, one_value}
+use Rattle.rt_nodes.specs.declared.operators.Op2.{Op2}
+use Rattle.rt_nodes.specs.declared.value.Callee.{Callee}
+use Rattle.rt_nodes.specs.declared.value.Callee.TheOpen.{Place-F, Value-F}
+use Rattle.rt_nodes.specs.declared.value.Place.{Place, out-Place}
+use Rattle.rt_nodes.specs.declared.value.Place as places
+use Rattle.rt_nodes.specs.declared.value.Place.TheVariants as place
+use Rattle.rt_nodes.specs.declared.value.Value.{Value, out-Value}
+use Rattle.rt_nodes.specs.declared.value.Value as values
+use Rattle.rt_nodes.specs.declared.value.Value.TheVariants as value
+use Rattle.rt_nodes.specs.Code.{mode_found, place_found}
+use Rattle.rt_tree.specs.Depth.{depth, address_depth}
+use Rattle.rt_nodes.specs.Scopes.{Scope, with}
+use Rattle.rt_nodes.specs.Tree.{Term, Path}
+use Rattle.rt_nodes.specs.Typing.{Placed, Found, Variable, Loop, Shared, Private, Row, Spot, OnLocal, OnPath, OnRow, field_found, field_in, field_path, element_found, element_in, element_path, read_mode, reference_mode, length_mode, read_tree, reference_tree, reference_path, length_tree, length_path, mode_at}
 use Rattle.rt_frames.specs.declared.frame.CallPoint.{CallPoint}
-use Rattle.rt_frames.specs.declared.measure.Address.{Address}
 use Rattle.rt_frames.specs.declared.measure.Address.TheVariants as address
 use Rattle.rt_frames.specs.declared.measure.Measured.{Measured}
 use Rattle.rt_frames.specs.declared.measure.Reached as reached
 use Rattle.rt_frames.specs.declared.values.Called.{Called}
 use Rattle.rt_frames.specs.Measures.{IsMeasured, IsReached, IsCalled, address_of, words, taken, array_address, element_address, int_or_none}
 use Rattle.rt_frames.specs.Points.{place_points, value_points, callee_points, place_step, value_step, address_words, error_points, arguments_points, call_point}
-use Rattle.rt_frames.proofs.Fused.{place_at, value_at, place_layer, value_layer}
+use Rattle.rt_frames.proofs.Fused.{place_at, value_at}
 
 -- ---- how places are come to
 
-words_of_spot : (s : Spot) → words (address_of s) ≡ address_words s
+pub words_of_spot : (s : Spot) → words (address_of s) ≡ address_words s
 words_of_spot (OnLocal i) = refl
 words_of_spot (OnPath p) = refl
 words_of_spot (OnRow v) = refl
@@ -38,7 +37,7 @@ path_of_field : (l : Mode-F Mode) (p : Path) (k : ℕ) → address_depth (field_
 path_of_field (Mode-F.Record r) p k = refl
 path_of_field _ p k = refl
 
-spot_of_field : (f : Option Found) (s : Spot) (k : ℕ) → address_of (field_in f s k) ≡ address_of s
+pub spot_of_field : (f : Option Found) (s : Spot) (k : ℕ) → address_of (field_in f s k) ≡ address_of s
 spot_of_field (Some (Shared m)) (OnPath q) k = ap (λ (d : ℕ). address.Path d) (path_of_field (out-Mode m) q k)
 spot_of_field (Some (Private m)) (OnPath q) k = ap (λ (d : ℕ). address.Path d) (path_of_field (out-Mode m) q k)
 spot_of_field (Some (Shared m)) (OnLocal i) k = refl
@@ -62,7 +61,7 @@ no_path_local : (l : Mode-F Mode) (v : ℕ) → address.Local ≡ array_address 
 no_path_local (Mode-F.Array n m) v = refl
 no_path_local _ v = refl
 
-spot_of_element : (f : Option Found) (s : Spot) (v : Term) → address_of (element_in f s v) ≡ element_address f (address_of s) (depth v)
+pub spot_of_element : (f : Option Found) (s : Spot) (v : Term) → address_of (element_in f s v) ≡ element_address f (address_of s) (depth v)
 spot_of_element (Some (Shared m)) (OnPath q) v = path_of_element (out-Mode m) q v
 spot_of_element (Some (Private m)) (OnPath q) v = path_of_element (out-Mode m) q v
 spot_of_element (Some (Shared m)) (OnLocal i) v = no_path_local (out-Mode m) (depth v)
@@ -76,7 +75,7 @@ spot_of_element (Some (Variable m)) s v = refl
 spot_of_element (Some Loop) s v = refl
 spot_of_element None s v = refl
 
-read_depth : (p : Placed) (s : Spot) → p.tree ≡ s → depth (read_tree p) ≡ taken (address_of s)
+pub read_depth : (p : Placed) (s : Spot) → p.tree ≡ s → depth (read_tree p) ≡ taken (address_of s)
 read_depth p (OnLocal i) e = rw e refl
 read_depth p (OnPath q) e = rw e refl
 read_depth p (OnRow v) e = rw e refl
@@ -85,7 +84,7 @@ path_of_reference : (l : Mode-F Mode) (q : Path) → depth (reference_path l q) 
 path_of_reference (Mode-F.Array n m) q = refl
 path_of_reference _ q = refl
 
-reference_depth : (p : Placed) (s : Spot) → p.tree ≡ s → depth (reference_tree p) ≡ taken (address_of s)
+pub reference_depth : (p : Placed) (s : Spot) → p.tree ≡ s → depth (reference_tree p) ≡ taken (address_of s)
 reference_depth p (OnLocal i) e = rw e refl
 reference_depth p (OnPath q) e = rw e (path_of_reference (out-Mode (mode_at p.found)) q)
 reference_depth p (OnRow v) e = rw e refl
@@ -94,7 +93,7 @@ path_of_length : (l : Mode-F Mode) (q : Path) → depth (length_path l q) ≡ ma
 path_of_length (Mode-F.Array n m) q = refl
 path_of_length _ q = refl
 
-length_depth : (p : Placed) (s : Spot) → p.tree ≡ s → depth (length_tree p) ≡ taken (address_of s)
+pub length_depth : (p : Placed) (s : Spot) → p.tree ≡ s → depth (length_tree p) ≡ taken (address_of s)
 length_depth p (OnLocal i) e = rw e refl
 length_depth p (OnPath q) e = rw e (path_of_length (out-Mode (mode_at p.found)) q)
 length_depth p (OnRow v) e = rw e refl

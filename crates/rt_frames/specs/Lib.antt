@@ -1,4 +1,5 @@
 pub mod Frames
 pub mod Measures
 pub mod Points
+pub mod Small
 pub mod Walks

@@ -2,12 +2,12 @@
 #![tactic(auto)]
 
 mod frame;
+mod laws;
 mod measure;
 mod procedure;
 mod statements;
-#[cfg(test)]
-mod tests;
 mod values;
 
 pub use frame::{CallPoint, Frame, Target};
+pub use laws::numbers_are_small;
 pub use procedure::frame_of;

@@ -1,6 +1,6 @@
 -- A step of one task leaves the others.
 use Rattle.std.proofs.Common.{◌≡◌, ◌≢◌, ℕ, zero, suc, ◌-◌, ◌<◌, List, [], ◌∷◌, slice_get, slice_set, Option, refl, ap, arith}
-use Rattle.rt_work.specs.World.{World}
+use Rattle.rt_resolve.specs.World.{World}
 use Rattle.rt_meaning.specs.Step.{Task}
 use Rattle.rt_meaning.specs.Run.{State, task_in, task_at, stepped}
 use Rattle.rt_meaning.specs.Laws.{StepsLeaveOthers}

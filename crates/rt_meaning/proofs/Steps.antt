@@ -1,12 +1,12 @@
 -- Each visible step looks at the store at one location at most, and changes it at one.
 use Rattle.std.proofs.Common.{◌≡◌, ◌≢◌, ◌⊎◌, List, [], ◌∷◌, refl, ap, inl, inr}
-use Rattle.rt_tree.specs.declared.store.Datum.{Datum}
-use Rattle.rt_tree.specs.declared.store.Location.{Location}
-use Rattle.rt_tree.specs.declared.step.Step.TheVariants as step
+use Rattle.rt_nodes.specs.declared.store.Datum.{Datum}
+use Rattle.rt_nodes.specs.declared.store.Location.{Location}
+use Rattle.rt_nodes.specs.declared.step.Step.TheVariants as step
 use Rattle.rt_rules.specs.declared.service.Outcome.{Outcome}
 use Rattle.rt_work.specs.Stores.{Store, read, write, erp}
 use Rattle.rt_work.specs.Task.{Next, Reads, Writes, Calls, Returns, Jumps, Leaps, Asks, Recovers, Errors, Lacks}
-use Rattle.rt_work.specs.World.{World}
+use Rattle.rt_resolve.specs.World.{World}
 use Rattle.rt_meaning.specs.Step.{Act, Task, Over, Failed, Doing, with_todo, act, next_of, task_step}
 use Rattle.rt_meaning.specs.Laws.{AnswersServe, own_of, ReadsOne, WritesOne}
 

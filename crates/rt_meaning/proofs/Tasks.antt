@@ -1,16 +1,16 @@
 -- The step of one task in the list of all.
 use Rattle.std.proofs.Common.{◌≡◌, ℕ, zero, suc, ◌+◌, ◌-◌, ◌<◌, ◌≤◌, List, [], ◌∷◌, Option, Some, None, Result, Ok, Err, IfOk, OnErr, length, get_or, slice_get, refl, ap, ◌∙◌, sym, subst, arith}
 use Rattle.std.proofs.Math.ListN.{set}
-use Rattle.rt_tree.specs.declared.step.Step.{Step}
+use Rattle.rt_nodes.specs.declared.step.Step.{Step}
 use Rattle.rt_rules.specs.Roster.{Roster, InRanges}
 use Rattle.rt_rules.specs.Rules.{running}
 use Rattle.rt_meaning.specs.declared.common.Common.{Common}
-use Rattle.rt_work.specs.declared.code.ModuleCode.{ModuleCode}
+use Rattle.rt_resolve.specs.declared.code.ModuleCode.{ModuleCode}
 use Rattle.rt_meaning.specs.declared.system.Task.{Task as TaskNode}
 use Rattle.rt_meaning.specs.Step.{Task, request}
 use Rattle.rt_meaning.specs.Run as run
 use Rattle.rt_meaning.specs.Run.{Moved, Stepped, stepped_by, task_in, one_step}
-use Rattle.rt_work.specs.World.{world}
+use Rattle.rt_resolve.specs.World.{world}
 use Rattle.rt_meaning.specs.States.{task, tasks, moved}
 use Rattle.std.proofs.lemmas.List.{length-map}
 use Rattle.rt_rules.specs.Rules.{rows_from}

@@ -1,11 +1,11 @@
 -- What holds of every visible step, whatever the modules, the task and the store are.
 use Rattle.std.specs.Prelude.{◌≡◌, ◌≢◌, ◌⊎◌, ℕ, ◌<◌, List, [], Option}
-use Rattle.rt_tree.specs.declared.store.Datum.{Datum}
-use Rattle.rt_tree.specs.declared.store.Location.{Location}
-use Rattle.rt_tree.specs.declared.step.Step.TheVariants as step
+use Rattle.rt_nodes.specs.declared.store.Datum.{Datum}
+use Rattle.rt_nodes.specs.declared.store.Location.{Location}
+use Rattle.rt_nodes.specs.declared.step.Step.TheVariants as step
 use Rattle.rt_rules.specs.declared.service.Outcome.{Outcome}
 use Rattle.rt_work.specs.Stores.{Store, read, write}
-use Rattle.rt_work.specs.World.{World}
+use Rattle.rt_resolve.specs.World.{World}
 use Rattle.rt_meaning.specs.Run.{State, task_at, stepped, tick}
 use Rattle.rt_meaning.specs.Step.{Task, Over, Failed, Doing, task_step}
 

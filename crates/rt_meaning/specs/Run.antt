@@ -1,7 +1,6 @@
--- The source run: the tasks over one store, by the supervisor's rules, each tick after a stated number of steps.
-use Rattle.std.specs.Prelude.{ℕ, zero, suc, ◌+◌, ◌-◌, ◌^◌, ◌≤◌, ◌==◌, if◌then◌else◌, min, List, [], ◌∷◌, ◌++◌, map, Option, Some, None, slice_get, slice_set}
-use Rattle.std.specs.List.{AllByRecursion}
-use Rattle.rt_tree.specs.declared.step.Step.{Step}
+-- The steps and ticks of a source run: the tasks over one store, by the supervisor's rules.
+use Rattle.std.specs.Prelude.{ℕ, ◌+◌, ◌-◌, ◌^◌, min, List, map, Option, Some, None, slice_get, slice_set}
+use Rattle.rt_nodes.specs.declared.step.Step.{Step}
 use Rattle.rt_rules.specs.declared.service.Svc.TheVariants as svc
 use Rattle.rt_rules.specs.declared.service.Outcome.{Outcome}
 use Rattle.rt_rules.specs.declared.service.Outcome.TheVariants.{Go, Waits, Error, Ends}
@@ -9,9 +8,9 @@ use Rattle.rt_rules.specs.Rules as rules
 use Rattle.rt_rules.specs.Roster.{Roster}
 use Rattle.rt_work.specs.declared.request.Request.{Request}
 use Rattle.rt_work.specs.declared.request.Request.TheVariants.{Nothing, Takes, Puts, Rules}
-use Rattle.rt_tree.specs.declared.store.Proc.{Proc}
+use Rattle.rt_nodes.specs.declared.store.Proc.{Proc}
 use Rattle.rt_work.specs.Stores.{Store, first_own}
-use Rattle.rt_work.specs.World.{World}
+use Rattle.rt_resolve.specs.World.{World}
 use Rattle.rt_meaning.specs.Step.{Task, Over, After, request, task_step, about_to}
 
 -- the tasks 1, 2 and so on, the store, the supervisor's rules, and how many bytes of the console were taken
@@ -117,54 +116,3 @@ tasks_of fs = map task_of fs
 
 abbrev pub start : Store → List Proc → List ℕ → State
 start S roots priorities = record { rules = rules.start priorities; store = S; tasks = tasks_of roots; taken = 0 }
-
--- ---- the run
-
--- a state, and all that was put out up to it
-pub record Reached : Type 0 where
-  pub state : State
-  pub output : List ℕ
-
-abbrev pub bytes_of : Option ℕ → List ℕ
-bytes_of None = []
-bytes_of (Some b) = b ∷ []
-
-abbrev pub reached_by : List ℕ → Option Stepped → Option Reached
-reached_by output None = None
-reached_by output (Some after) = Some (record { state = after.state; output = output ++ bytes_of after.byte })
-
--- one step; the next byte of the console is the one behind those that were taken
-abbrev pub then_step : World → List ℕ → Option Reached → Option Reached
-then_step w input None = None
-then_step w input (Some r) = reached_by r.output (one_step w r.state (slice_get input r.state.taken))
-
-abbrev pub ticks : ℕ → State → State
-ticks zero s = s
-ticks (suc n) s = tick (ticks n s)
-
-abbrev pub then_ticks : ℕ → Option Reached → Option Reached
-then_ticks n None = None
-then_ticks n (Some r) = Some (record { state = ticks n r.state; output = r.output })
-
--- how many ticks fall after s steps
-abbrev pub ticks_after : List ℕ → ℕ → ℕ
-ticks_after [] s = 0
-ticks_after (p ∷ ps) s = if p == s then suc (ticks_after ps s) else ticks_after ps s
-
--- The state after n steps, with the ticks that fall after 0, 1, .., n of them, and what was put out. It is there where before
--- each of the steps some task is ready.
-abbrev pub source_run : World → State → List ℕ → List ℕ → ℕ → Option Reached
-source_run w begin placements input zero =
-    then_ticks (ticks_after placements 0) (Some (record { state = begin; output = [] }))
-source_run w begin placements input (suc n) =
-    then_ticks (ticks_after placements (suc n)) (then_step w input (source_run w begin placements input n))
-
--- placements that never fall
-abbrev pub NeverFalls : List ℕ → Type 0
-NeverFalls [] = Unit {0}
-NeverFalls (p ∷ ps) = AllByRecursion (λ q. p ≤ q) ps × NeverFalls ps
-
--- the placements of ticks in a run of n steps
-pub record ArePlacements (placements : List ℕ) (n : ℕ) : Type 0 where
-  pub never_falls : NeverFalls placements
-  pub within : AllByRecursion (λ p. p ≤ n) placements

@@ -1,10 +1,7 @@
 -- A source state of the code as plain data.
-use Rattle.std.specs.Prelude.{ℕ, Bool, true, false, List, Option, Some, None}
 use Rattle.rt_meaning.specs.declared.state.SourceState.{SourceState}
-use Rattle.rt_work.specs.World.{World}
-use Rattle.rt_meaning.specs.declared.run.Reached.{Reached as ReachedNode}
-use Rattle.rt_meaning.specs.Run.{State, Reached}
-use Rattle.rt_work.specs.World.{world}
+use Rattle.rt_meaning.specs.Run.{State}
+use Rattle.rt_resolve.specs.World.{World, world}
 use Rattle.rt_meaning.specs.States.{tasks}
 
 -- the modules of its system
@@ -14,15 +11,3 @@ world_of s = world s.modules
 -- what the run has come to
 abbrev pub state_of : SourceState → State
 state_of s = record { rules = s.common.rules; store = s.common.store; tasks = tasks s.tasks.items; taken = s.common.taken }
-
--- what a run has come to
-abbrev pub reached_at : SourceState → List ℕ → Reached
-reached_at s output = record { state = state_of s; output = output }
-
-abbrev pub reached_if : Bool → SourceState → List ℕ → Option Reached
-reached_if true s output = Some (reached_at s output)
-reached_if false s output = None
-
-abbrev pub reached : Option ReachedNode → Option Reached
-reached None = None
-reached (Some r) = Some (reached_at r.state r.output)

@@ -4,17 +4,17 @@
 -- comes of a service, and has no effect where the step is none. It gives the task, the store and the step. At most one
 -- location is read or written.
 use Rattle.std.specs.Prelude.{ℕ, ◌-◌, Bool, true, false, List, [], ◌∷◌, ◌++◌, Option, Some, None, length, replicate}
-use Rattle.rt_tree.specs.declared.store.Proc.{Proc}
-use Rattle.rt_tree.specs.declared.store.Datum.{Datum}
-use Rattle.rt_tree.specs.declared.store.Datum.TheVariants.{Word, Reference}
-use Rattle.rt_tree.specs.declared.step.Step.{Step}
-use Rattle.rt_tree.specs.declared.step.Step.TheVariants as step
+use Rattle.rt_nodes.specs.declared.store.Proc.{Proc}
+use Rattle.rt_nodes.specs.declared.store.Datum.{Datum}
+use Rattle.rt_nodes.specs.declared.store.Datum.TheVariants.{Word, Reference}
+use Rattle.rt_nodes.specs.declared.step.Step.{Step}
+use Rattle.rt_nodes.specs.declared.step.Step.TheVariants as step
 use Rattle.rt_rules.specs.declared.service.Svc.TheVariants as svc
 use Rattle.rt_rules.specs.declared.service.Outcome.{Outcome}
 use Rattle.rt_rules.specs.declared.service.Outcome.TheVariants.{Go, Waits, Error, Ends}
 use Rattle.rt_work.specs.declared.request.Request.{Request}
 use Rattle.rt_work.specs.declared.request.Request.TheVariants.{Nothing, Takes, Puts, Rules}
-use Rattle.rt_work.specs.World.{Code, World}
+use Rattle.rt_resolve.specs.World.{Code, World}
 use Rattle.rt_work.specs.Stores.{Store, read, write, write_own, erp}
 use Rattle.rt_work.specs.Task.{Env, Item, Do, Fetch, Report, GiveUp, Leave, Begin, Serve, Next, Reads, Writes, Calls, Returns, Jumps, Leaps, Asks, Recovers, Errors, Lacks, next, from_label}
 

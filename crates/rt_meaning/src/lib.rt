@@ -6,11 +6,9 @@ mod common;
 mod kept;
 mod laws;
 mod moves;
-mod run;
 mod state;
 mod system;
 
 pub use begin::SourceTask;
 pub use laws::{answers_serve, steps_access_one_location, steps_leave_other_tasks};
-pub use run::{Reached, run_system, source_run};
 pub use state::SourceState;

@@ -4,7 +4,7 @@ ghost use Rattle.std.specs.Prelude.{◌≡◌, ◌≢◌, ◌^◌, ◌<◌, ◌-
 ghost use Rattle.rt_rules.specs.Rules as rules;
 ghost use Rattle.rt_work.specs.Stores as stores;
 ghost use Rattle.rt_work.specs.Task as work;
-ghost use Rattle.rt_work.specs.World as world;
+ghost use Rattle.rt_resolve.specs.World as world;
 ghost use Rattle.rt_meaning.specs.Step as step;
 ghost use Rattle.rt_meaning.specs.Run as run;
 ghost use Rattle.rt_work.specs.Nodes as n;
@@ -12,11 +12,12 @@ ghost use Rattle.rt_meaning.specs.States as states;
 
 use crate::common::Common;
 use crate::system::{Act, Ending, Task, entered, leapt, next_of};
+use rt_resolve::ModuleCode;
 use rt_rules::{Outcome, Svc};
 use rt_tree::{Datum, Location, Proc, Step};
 use rt_words::{List, Memory};
 use rt_work::{
-    Item, ModuleCode, ModuleStore, Next, Request, Scene, Stack, copy_values, read, write, write_own,
+    Item, ModuleStore, Next, Request, Scene, Stack, copy_values, read, write, write_own,
 };
 use std::alloc::Global;
 use std::mem::replace;

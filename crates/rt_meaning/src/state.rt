@@ -7,11 +7,11 @@ use crate::common::Common;
 use crate::kept::KeptRules;
 use crate::moves::step_task;
 use crate::system::Task;
-use rt_resolve::{System, resolve};
+use rt_resolve::{ModuleCode, System, resolve};
 use rt_rules::State;
 use rt_tree::{Step, TypedModule};
 use rt_words::{List, Memory};
-use rt_work::{ModuleCode, ModuleStore};
+use rt_work::ModuleStore;
 use std::alloc::Global;
 
 /// A source state: the modules of a system, and what the run has come to.
@@ -29,7 +29,7 @@ impl SourceState {
     ghost use Rattle.rt_meaning.specs.Conditions.{conditions};
     ghost use Rattle.rt_meaning.specs.Run as run;
     ghost use Rattle.rt_meaning.specs.Roots as roots;
-    ghost use Rattle.rt_work.specs.World as world;
+    ghost use Rattle.rt_resolve.specs.World as world;
     ghost use Rattle.rt_meaning.specs.Source as source;
     ghost use Rattle.rt_meaning.specs.Whole.{beginning};
     ghost use Rattle.rt_resolve.specs.Systems.{IsNumbered};

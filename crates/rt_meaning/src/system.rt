@@ -2,17 +2,15 @@
 
 ghost use Rattle.std.specs.Prelude.{◌≡◌, ◌+◌, ◌-◌, ◌*◌, ◌<◌, ◌≤◌, IfOk, OnOk, OnErr, Some, None, ◌∷◌, [], ◌++◌};
 ghost use Rattle.rt_work.specs.Task as task;
-ghost use Rattle.rt_work.specs.World as world;
+ghost use Rattle.rt_resolve.specs.World as world;
 ghost use Rattle.rt_meaning.specs.Step as step;
 ghost use Rattle.rt_work.specs.Nodes as n;
 ghost use Rattle.rt_meaning.specs.States as states;
 
+use rt_resolve::{ModuleCode, code_of, module_at};
 use rt_tree::{Datum, Proc};
 use rt_words::{List, Memory};
-use rt_work::{
-    Env, Item, ModuleCode, Next, Scene, SeqNode, Stack, advance, code_of, copy_scene, from_label,
-    module_at,
-};
+use rt_work::{Env, Item, Next, Scene, SeqNode, Stack, advance, copy_scene, from_label};
 use std::alloc::Global;
 use std::rc::Rc;
 

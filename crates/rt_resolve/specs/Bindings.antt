@@ -2,11 +2,11 @@
 -- name, a supplied procedure to its number. Modules count from 1, and module 0 has the supplied procedures.
 use Rattle.std.specs.Prelude.{ℕ, zero, suc, ◌+◌, Bool, true, false, ◌&&◌, if◌then◌else◌, List, [], ◌∷◌, codes, Option, Some, None, slice_get}
 use Rattle.std.specs.Str.{bytes_eq}
-use Rattle.rt_tree.specs.declared.brick.Brick.{Brick}
-use Rattle.rt_tree.specs.declared.brick.Kind.{Kind}
-use Rattle.rt_tree.specs.declared.brick.Kind.TheVariants as kind
-use Rattle.rt_tree.specs.declared.brick.ModuleParts.{ModuleParts}
-use Rattle.rt_tree.specs.declared.store.Proc.{Proc}
+use Rattle.rt_nodes.specs.declared.brick.Brick.{Brick}
+use Rattle.rt_nodes.specs.declared.brick.Kind.{Kind}
+use Rattle.rt_nodes.specs.declared.brick.Kind.TheVariants as kind
+use Rattle.rt_nodes.specs.declared.brick.ModuleParts.{ModuleParts}
+use Rattle.rt_nodes.specs.declared.store.Proc.{Proc}
 use Rattle.rt_work.specs.Stores.{supplied}
 
 -- the number of a supplied procedure; 0 where the name isn't one

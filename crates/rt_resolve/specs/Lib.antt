@@ -2,3 +2,4 @@ pub mod Bindings
 pub mod Trees
 pub mod Starting
 pub mod Systems
+pub mod World

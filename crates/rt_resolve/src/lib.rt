@@ -2,6 +2,7 @@
 #![tactic(auto)]
 
 mod bindings;
+mod code;
 mod join;
 mod share;
 mod spot;
@@ -10,4 +11,5 @@ mod statements;
 mod system;
 mod values;
 
+pub use code::{Code, ModuleCode, code_of, module_at};
 pub use system::{System, are_numbered, resolve};

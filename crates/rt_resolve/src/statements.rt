@@ -1,10 +1,10 @@
 //! The plain trees of conditions, statements and bodies.
 
 ghost use Rattle.std.specs.Prelude.{◌≡◌, IfOk, map};
-ghost use Rattle.rt_tree.specs.Code as seen;
+ghost use Rattle.rt_nodes.specs.Code as seen;
 ghost use Rattle.rt_tree.specs.Statements as statements;
-ghost use Rattle.rt_tree.specs.Tree as tree;
-ghost use Rattle.rt_tree.specs.Typing as typing;
+ghost use Rattle.rt_nodes.specs.Tree as tree;
+ghost use Rattle.rt_nodes.specs.Typing as typing;
 ghost use Rattle.rt_work.specs.Nodes as n;
 ghost use Rattle.rt_resolve.specs.Trees as trees;
 

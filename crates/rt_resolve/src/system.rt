@@ -2,19 +2,20 @@
 
 ghost use Rattle.std.specs.Prelude.{◌≡◌, ◌≤◌, true, false, All, Any, IfOk, length, map};
 ghost use Rattle.std.specs.List.{list_all};
-ghost use Rattle.rt_tree.specs.Code as seen;
+ghost use Rattle.rt_nodes.specs.Code as seen;
 ghost use Rattle.rt_tree.specs.Modules.{is_short};
-ghost use Rattle.rt_work.specs.World as world;
+ghost use Rattle.rt_resolve.specs.World as world;
 ghost use Rattle.rt_resolve.specs.Starting as starting;
 ghost use Rattle.rt_resolve.specs.Systems as systems;
 
 use crate::bindings::bounds;
+use crate::code::{Code, ModuleCode};
 use crate::share::shared;
 use crate::starting::{Home, bricks_contents, texts_contents};
 use crate::statements::body;
 use rt_tree::{Brick, BrickSort, ProcBody, Scope, TypedModule};
 use rt_words::{Bytes, List, Memory};
-use rt_work::{Code, Env, ModuleCode, ModuleStore};
+use rt_work::{Env, ModuleStore};
 use std::alloc::Global;
 
 /// What a system begins with: what its tasks read of its modules, and its starting store.

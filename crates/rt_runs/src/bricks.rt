@@ -164,16 +164,33 @@ fn field(alloc: Global, called: &[u8], spelled: &[u8]) -> Result<Field, Fail> {
     Ok(Field { name, mode })
 }
 
-/// `SVC DATA RRERR; LABEL ERL; INT ERN; PROC(INT) ERP ENDDATA;`
-pub fn error_data(alloc: Global) -> Result<Brick, Fail> {
-    let name = name(alloc, b"RRERR")?;
-    let mut fields = List::new(alloc, 3)?;
-    fields.push(field(alloc, b"ERL", &[8])?)?;
-    fields.push(field(alloc, b"ERN", INT)?)?;
-    fields.push(field(alloc, b"ERP", TAKES_INT)?)?;
+/// `kind DATA name; items ENDDATA;`, without starts.
+pub fn declared(
+    alloc: Global,
+    kind: Kind,
+    called: &[u8],
+    items: &[(&[u8], &[u8])],
+) -> Result<Brick, Fail> {
+    let name = name(alloc, called)?;
+    let mut fields = List::new(alloc, items.len())?;
+    for (called, spelled) in items {
+        fields.push(field(alloc, *called, *spelled)?)?;
+    }
     Ok(Brick {
-        kind: Kind::Svc,
+        kind,
         name,
         sort: BrickSort::Data(fields, List::new(alloc, 0)?),
     })
+}
+
+/// `SVC DATA RRERR; LABEL ERL; INT ERN; PROC(INT) ERP ENDDATA;`
+pub fn error_data(alloc: Global) -> Result<Brick, Fail> {
+    let items: [(&[u8], &[u8]); 3] = [(b"ERL", &[8]), (b"ERN", INT), (b"ERP", TAKES_INT)];
+    declared(alloc, Kind::Svc, b"RRERR", &items)
+}
+
+/// `SVC DATA RRSIO; PROC() BYTE IN; PROC(BYTE) OUT ENDDATA;`
+pub fn stream_data(alloc: Global) -> Result<Brick, Fail> {
+    let items: [(&[u8], &[u8]); 2] = [(b"IN", GIVES_BYTE), (b"OUT", TAKES_BYTE)];
+    declared(alloc, Kind::Svc, b"RRSIO", &items)
 }

@@ -48,8 +48,12 @@ pub enum Node {
     Switch(u16, u16),
     /// A condition and a sequence.
     If,
+    /// A condition and two sequences.
+    IfElse,
     /// Start, step, end and a sequence.
     For(u16),
+    /// Start, end and a sequence, by steps of 1.
+    Count(u16),
     /// A number of turns and a sequence.
     To(u16),
     While,
@@ -285,12 +289,10 @@ fn plain(alloc: Global, desk: &mut Desk, node: Node) -> Result<(), Fail> {
 // The statements with a sequence inside.
 fn nested(alloc: Global, desk: &mut Desk, node: Node) -> Result<(), Fail> {
     match node {
-        Node::If => {
-            let taken = desk.row()?;
-            let test = desk.test()?;
-            let mut branches = List::new(alloc, 1)?;
-            branches.push(Branch { test, taken })?;
-            desk.stat(Stat::If(branches, None))
+        Node::If => choice(alloc, desk, None),
+        Node::IfElse => {
+            let otherwise = Some(desk.row()?);
+            choice(alloc, desk, otherwise)
         }
         Node::For(local) => {
             let row = desk.row()?;
@@ -298,6 +300,12 @@ fn nested(alloc: Global, desk: &mut Desk, node: Node) -> Result<(), Fail> {
             let step = Some(desk.value()?);
             let start = desk.value()?;
             desk.stat(Stat::For(local, start, step, end, row))
+        }
+        Node::Count(local) => {
+            let row = desk.row()?;
+            let end = desk.value()?;
+            let start = desk.value()?;
+            desk.stat(Stat::For(local, start, None, end, row))
         }
         Node::To(local) => {
             let row = desk.row()?;
@@ -311,6 +319,14 @@ fn nested(alloc: Global, desk: &mut Desk, node: Node) -> Result<(), Fail> {
         }
         _ => Ok(()),
     }
+}
+
+fn choice(alloc: Global, desk: &mut Desk, otherwise: Option<List<Labelled>>) -> Result<(), Fail> {
+    let taken = desk.row()?;
+    let test = desk.test()?;
+    let mut branches = List::new(alloc, 1)?;
+    branches.push(Branch { test, taken })?;
+    desk.stat(Stat::If(branches, otherwise))
 }
 
 /// The body that these nodes make, and the number of its labels.

@@ -1,4 +1,4 @@
-//! Runs of small systems, node by node: the tests of the source meaning.
+//! Whole runs of the source meaning, with ticks at stated placements.
 #![tactic(auto)]
 
 #[cfg(test)]
@@ -8,6 +8,11 @@ mod desk;
 #[cfg(test)]
 mod errors;
 #[cfg(test)]
+mod frames;
+#[cfg(test)]
 mod places;
+mod run;
 #[cfg(test)]
 mod systems;
+
+pub use run::{Reached, are_placements, run_system, source_run};

@@ -9,7 +9,8 @@ use crate::bricks::{
     supplied,
 };
 use crate::desk::Node;
-use rt_meaning::{SourceState, SourceTask, source_run};
+use crate::run::{run_system, source_run};
+use rt_meaning::{SourceState, SourceTask};
 use rt_resolve::are_numbered;
 use rt_rules::State;
 use rt_tree::{Op1, Op2, Step, TypedModule};
@@ -157,6 +158,34 @@ fn hello_runs(rt: HostRuntime) -> Result<(), Fail> {
     assert_eq!(rt; ends.as_slice(), [State::Ready].as_slice());
     let steps = steps_of(a, b"RROUT", TAKES_BYTE, &[], HELLO)?;
     assert_eq!(rt; steps.as_slice(), b"ccstcstcstts".as_slice());
+    Ok(())
+}
+
+// The output of so many steps of the same system from its start on; none where the run isn't there.
+fn hello_output(alloc: Global, placements: &[u64], steps: u64) -> Result<Vec<u8>, Fail>
+    requires few { length placements.now ≤ 10 }
+    requires steps { steps ≤ 1000 }
+{
+    let modules = [small(alloc, b"RROUT", TAKES_BYTE, &[], HELLO)?];
+    if !are_numbered(&modules) {
+        return Err("too large".into());
+    }
+    match run_system(alloc, &modules, &[task(1, 1)], placements, &[], steps)? {
+        Some(reached) => Ok(Vec::from_slice(alloc, reached.output.as_slice())?),
+        None => Ok(Vec::new(alloc)),
+    }
+}
+
+#[test]
+fn runs_have_placements(rt: HostRuntime) -> Result<(), Fail> {
+    let a = rt.alloc();
+    assert_eq!(rt;
+        hello_output(a, &[0, 4, 4, 12], 12)?.as_slice(),
+        b"HI\n".as_slice()
+    );
+    assert_eq!(rt; hello_output(a, &[], 13)?.len(), 0);
+    assert_eq!(rt; hello_output(a, &[13], 12)?.len(), 0);
+    assert_eq!(rt; hello_output(a, &[5, 4], 12)?.len(), 0);
     Ok(())
 }
 

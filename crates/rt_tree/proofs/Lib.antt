@@ -1,3 +1,2 @@
 mod Bounding
 mod Holding
-pub mod Same

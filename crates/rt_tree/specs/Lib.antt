@@ -1,11 +1,8 @@
-pub mod Code
 pub mod Depth
 pub mod Modules
-pub mod Scopes
+pub mod Sights
 pub mod Statements
 pub mod Stored
 pub mod Taken
-pub mod Tree
-pub mod Typing
 pub mod Weights
 pub mod Within

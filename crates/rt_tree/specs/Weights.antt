@@ -2,13 +2,20 @@
 -- within these weights has at most 12 words an item, and 16 more.
 use Rattle.std.specs.Prelude.{ℕ, ◌+◌, ◌*◌, if◌then◌else◌, length}
 use Rattle.rt_modes.specs.declared.mode.Mode.{Mode}
-use Rattle.rt_tree.specs.Tree.{Term, Num, Str, Name, Own, Get, Ref, RefRow, Count, CountRow, One, Two, Over, Apply, ApplyBy, Path, ItemAt, Svc, FieldOf, Elem, ElemRow, Past, Terms, NoTerm, MoreTerms, Cond, Is, Both, Either, Stmt, Keep, Clear, Put, Run, Toss, Goto, GiveBack, Back, Switch, Inner, If, For, To, While, Recover, Seq, Done, Then, Mark}
-use Rattle.rt_tree.specs.Typing.{is_byte}
+use Rattle.rt_nodes.specs.declared.operators.Op1.{Op1}
+use Rattle.rt_nodes.specs.declared.operators.Op1.TheVariants as op
+use Rattle.rt_nodes.specs.Tree.{Term, Num, Str, Name, Own, Get, Ref, RefRow, Count, CountRow, One, Two, Over, Apply, ApplyBy, Path, ItemAt, Svc, FieldOf, Elem, ElemRow, Past, Terms, NoTerm, MoreTerms, Cond, Is, Both, Either, Stmt, Keep, Clear, Put, Run, Toss, Goto, GiveBack, Back, Switch, Inner, If, For, To, While, Recover, Seq, Done, Then, Mark}
+use Rattle.rt_nodes.specs.Typing.{is_byte}
 
 -- What is read through eight REFs is one item of the text, so a REF that is followed takes one word; a BYTE takes more,
 -- and is followed no further.
 abbrev pub read_weight : Mode → ℕ
 read_weight m = if is_byte m then 5 else 1
+
+-- INT of a BYTE or FRAC changes no bit of the word.
+abbrev pub operator_weight : Op1 → ℕ
+operator_weight op.Int = 0
+operator_weight _ = 3
 
 abbrev mutual
   pub term_weight : Term → ℕ
@@ -21,7 +28,7 @@ abbrev mutual
   term_weight (RefRow p n) = 2 + path_weight p
   term_weight (Count p n) = 4 + path_weight p
   term_weight (CountRow v) = 4 + term_weight v
-  term_weight (One o v) = 3 + term_weight v
+  term_weight (One o v) = operator_weight o + term_weight v
   term_weight (Two o a b) = 8 + (term_weight a + term_weight b)
   term_weight (Over o a b) = 8 + (term_weight a + term_weight b)
   term_weight (Apply b vs) = 8 + terms_weight vs
@@ -32,7 +39,7 @@ abbrev mutual
   path_weight (Svc k) = 3
   path_weight (FieldOf p r k) = 4 + path_weight p
   path_weight (Elem p v n m) = 20 + (path_weight p + term_weight v)
-  path_weight (ElemRow a v m) = 20 + (term_weight a + term_weight v)
+  path_weight (ElemRow a v m) = 19 + (term_weight a + term_weight v)
   path_weight (Past v) = term_weight v
 
   pub terms_weight : Terms → ℕ

@@ -2,19 +2,19 @@
 
 ghost use Rattle.std.specs.Prelude.{◌≡◌, length, map};
 ghost use Rattle.std.specs.List.{list_all};
-ghost use Rattle.rt_tree.specs.Code as seen;
+ghost use Rattle.rt_nodes.specs.Code as seen;
 ghost use Rattle.rt_tree.specs.Modules as modules;
 
-use crate::brick::{Brick, BrickSort, DataStart, Kind, Local, ModuleParts, ProcBody};
 use crate::closing::is_closed;
 use crate::fitting::{body, labels_end};
-use crate::lent::{Lent, Signature, ValueMode};
-use crate::modes::{same_mode, stands_alone, stands_passed};
-use crate::scope::Scope;
 use crate::sight::{Next, Seen, Sight};
+use crate::standing::{stands_alone, stands_passed};
 use crate::starts::items_start;
-use crate::statement::Body;
 use rt_modes::{Field, Mode, RecordDef};
+use rt_nodes::{
+    Body, Brick, BrickSort, DataStart, Kind, Lent, Local, ModuleParts, ProcBody, Scope, Signature,
+    ValueMode, same_mode,
+};
 use rt_words::Bytes;
 
 /// Whether every node of a module fits.

@@ -1,21 +1,18 @@
 //! Which conditions, statements and bodies fit.
 
 ghost use Rattle.std.specs.Prelude.{◌≡◌, map, slice_get};
-ghost use Rattle.rt_tree.specs.Code as seen;
-ghost use Rattle.rt_tree.specs.Scopes.{only, with};
-ghost use Rattle.rt_tree.specs.Typing as typing;
+ghost use Rattle.rt_nodes.specs.Code as seen;
+ghost use Rattle.rt_nodes.specs.Scopes.{only, with};
+ghost use Rattle.rt_nodes.specs.Typing as typing;
+ghost use Rattle.rt_tree.specs.Sights as sights;
 ghost use Rattle.rt_tree.specs.Statements as statements;
 
-use crate::brick::Local;
-use crate::lent::ValueMode;
-use crate::operator_modes::compares;
-use crate::operators::Rel;
-use crate::scope::Scope;
 use crate::sight::{Labels, Next, Seen, Sight};
-use crate::statement::{Body, Branch, Labelled, LocalStart, Stat, Test};
-use crate::typing::{found_at, mode_of, result_of, suits, suits_as};
-use crate::value::{Place, Value};
 use rt_modes::Mode;
+use rt_nodes::{
+    Body, Branch, Labelled, Local, LocalStart, Place, Rel, Scope, Stat, Test, Value, ValueMode,
+    compares, found_at, mode_of, result_of, suits, suits_as,
+};
 
 /// Whether a condition fits.
 #[cycle(conditions)]
@@ -56,7 +53,7 @@ fn comparison_fits(scope: &Scope<'_>, relation: Rel, left: &Value, right: &Value
 /// Where the numbers go on behind a body that fits.
 #[cycle(bodies)]
 pub(crate) fn body(scope: &Scope<'_>, sight: &Sight<'_>, body: &Body, next: Next) -> Option<Next>
-    ensures { result ≡ statements.body_part (seen.scope scope.now) body.now (seen.sight sight.now) next }
+    ensures { result ≡ statements.body_part (seen.scope scope.now) body.now (sights.sight sight.now) next }
 {
     let next = declares(scope, body.locals.as_slice(), next)?;
     sequence(scope, sight, body.statements.as_slice(), next)
@@ -65,7 +62,7 @@ pub(crate) fn body(scope: &Scope<'_>, sight: &Sight<'_>, body: &Body, next: Next
 /// Where the numbers go on behind a sequence that fits.
 #[cycle(bodies)]
 fn sequence(scope: &Scope<'_>, sight: &Sight<'_>, lines: &[Labelled], next: Next) -> Option<Next>
-    ensures { result ≡ statements.sequence (map (statements.marked (seen.scope scope.now)) lines.now) (seen.sight sight.now) next }
+    ensures { result ≡ statements.sequence (map (statements.marked (seen.scope scope.now)) lines.now) (sights.sight sight.now) next }
 {
     let end = labels_end(scope, lines, next.label)?;
     let labels = Labels {
@@ -87,7 +84,7 @@ fn sequence(scope: &Scope<'_>, sight: &Sight<'_>, lines: &[Labelled], next: Next
 
 #[cycle(bodies)]
 fn in_order(scope: &Scope<'_>, sight: &Sight<'_>, lines: &[Labelled], next: Next) -> Option<Next>
-    ensures { result ≡ statements.in_order (map (statements.marked (seen.scope scope.now)) lines.now) (seen.sight sight.now) next }
+    ensures { result ≡ statements.in_order (map (statements.marked (seen.scope scope.now)) lines.now) (sights.sight sight.now) next }
 {
     let mut behind = next;
     for line in lines {
@@ -101,7 +98,7 @@ fn in_order(scope: &Scope<'_>, sight: &Sight<'_>, lines: &[Labelled], next: Next
 /// Where the numbers go on behind a statement that fits.
 #[cycle(bodies)]
 fn statement(scope: &Scope<'_>, sight: &Sight<'_>, stat: &Stat, next: Next) -> Option<Next>
-    ensures { result ≡ statements.stat_part (seen.scope scope.now) stat.now (seen.sight sight.now) next }
+    ensures { result ≡ statements.stat_part (seen.scope scope.now) stat.now (sights.sight sight.now) next }
 {
     match stat {
         Stat::Call(value) => only(result_of(scope, value).is_some(), next),
@@ -157,7 +154,7 @@ fn branches_in_order(
     branches: &[Branch],
     next: Next,
 ) -> Option<Next>
-    ensures { result ≡ statements.branches_in_order (map (statements.branch_part (seen.scope scope.now)) branches.now) (seen.sight sight.now) next }
+    ensures { result ≡ statements.branches_in_order (map (statements.branch_part (seen.scope scope.now)) branches.now) (sights.sight sight.now) next }
 {
     let mut behind = next;
     for branch in branches {
@@ -300,7 +297,7 @@ fn returns(scope: &Scope<'_>, answer: &Option<ValueMode<'_>>, value: &Option<Val
 }
 
 fn all_seen(seen_here: &Seen<'_>, labels: &[u16]) -> bool
-    ensures { result ≡ statements.all_seen (seen.labels seen_here.now) labels.now }
+    ensures { result ≡ statements.all_seen (sights.labels seen_here.now) labels.now }
 {
     for label in labels {
         if !seen_here.sees(*label) {

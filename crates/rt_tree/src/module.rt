@@ -3,9 +3,9 @@
 ghost use Rattle.std.specs.Prelude.{◌≡◌, true, false, IfSome, IfNone, slice_get};
 ghost use Rattle.rt_tree.specs.Modules.{every_node_fits, has_body, is_procedure, sort_with, with_most};
 
-use crate::brick::{Brick, BrickSort, ModuleParts};
 use crate::bricks::every_node_fits;
 use rt_modes::ModeTable;
+use rt_nodes::{Brick, BrickSort, ModuleParts};
 use rt_words::{Bytes, List, Name};
 use std::marker::Model;
 
@@ -17,13 +17,13 @@ pub struct TypedModule {
 
 impl Model for TypedModule {
     ghost use Rattle.std.specs.Prelude.{◌≡◌, true};
-    ghost use Rattle.rt_tree.specs.declared.brick.ModuleParts.{ModuleParts};
+    ghost use Rattle.rt_nodes.specs.declared.brick.ModuleParts.{ModuleParts};
     ghost use Rattle.rt_tree.specs.Modules.{every_node_fits};
     ghost use Rattle.std.specs.Coded.{codes};
     ghost use Rattle.rt_modes.specs.contracts.mode.Mode as modes;
-    ghost use Rattle.rt_tree.specs.contracts.brick.DataStart as starts;
-    ghost use Rattle.rt_tree.specs.contracts.statement.Stat as statements;
-    ghost use Rattle.rt_tree.specs.contracts.statement.Body as bodies;
+    ghost use Rattle.rt_nodes.specs.contracts.brick.DataStart as starts;
+    ghost use Rattle.rt_nodes.specs.contracts.statement.Stat as statements;
+    ghost use Rattle.rt_nodes.specs.contracts.statement.Body as bodies;
 
     ghost Value = { ModuleParts };
 

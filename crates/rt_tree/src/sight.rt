@@ -1,10 +1,11 @@
 //! What a statement sees, and the numbers that come next.
 
 ghost use Rattle.std.specs.Prelude.{◌≡◌};
-ghost use Rattle.rt_tree.specs.Code as seen;
+ghost use Rattle.rt_nodes.specs.Code as seen;
+ghost use Rattle.rt_tree.specs.Sights as sights;
 ghost use Rattle.rt_tree.specs.Statements as statements;
 
-use crate::lent::ValueMode;
+use rt_nodes::ValueMode;
 
 /// The labels of a sequence: from `first` to before `end`.
 #[derive(Clone, Copy)]
@@ -39,7 +40,7 @@ pub(crate) struct Next {
 impl<'a> Seen<'a> {
     /// Whether label `l` is seen.
     pub(crate) fn sees(&self, l: u16) -> bool
-        ensures { result ≡ statements.sees (seen.labels self.now) l }
+        ensures { result ≡ statements.sees (sights.labels self.now) l }
     {
         match self {
             Seen::Nothing => false,

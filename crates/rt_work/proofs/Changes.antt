@@ -1,7 +1,8 @@
 -- A list in which one element is changed: it is taken out, and what becomes of it is put in its place.
 use Rattle.std.proofs.Common.{◌≡◌, ℕ, zero, suc, ◌-◌, List, Some, slice_get, slice_set, refl, arith}
 use Rattle.std.proofs.lemmas.List.{set-set}
-use Rattle.rt_work.specs.Stores.{changed, changed_number}
+use Rattle.rt_tree.specs.Stored.{changed}
+use Rattle.rt_work.specs.Stores.{changed_number}
 
 pub changed_found : {A : Type 0} (xs : List A) (k : ℕ) (x hole : A) (f : A → A) → Some x ≡ slice_get xs k → slice_set (slice_set xs k hole) k (f x) ≡ changed xs k f
 changed_found xs k x hole f e = rw (← e) (set-set xs k hole (f x))

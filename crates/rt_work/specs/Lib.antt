@@ -3,4 +3,3 @@ pub mod Stores
 pub mod Task
 pub mod Weights
 pub mod Nodes
-pub mod World

@@ -2,16 +2,16 @@
 -- A location leads from a brick or string through items, fields and elements by their numbers, each counted from 0. There
 -- are no addresses. What a location that leads nowhere reads is 0, and a write there changes nothing.
 use Rattle.std.specs.Prelude.{ℕ, zero, suc, List, [], ◌∷◌, ◌++◌, Option, Some, None, slice_get, slice_set}
-use Rattle.rt_tree.specs.declared.store.Proc.{Proc}
-use Rattle.rt_tree.specs.declared.store.Origin.{Origin}
-use Rattle.rt_tree.specs.declared.store.Origin.TheVariants.{Brick, Text}
-use Rattle.rt_tree.specs.declared.store.Location.{Location}
-use Rattle.rt_tree.specs.declared.store.Location.TheVariants.{Shared, Own}
-use Rattle.rt_tree.specs.declared.store.Datum.{Datum}
-use Rattle.rt_tree.specs.declared.store.Datum.TheVariants.{Word, Procedure}
-use Rattle.rt_tree.specs.declared.store.Contents.{Contents, out-Contents}
-use Rattle.rt_tree.specs.declared.store.Contents.TheOpen.{Contents-F}
-use Rattle.rt_tree.specs.declared.store.Contents.TheVariants as contents
+use Rattle.rt_nodes.specs.declared.store.Proc.{Proc}
+use Rattle.rt_nodes.specs.declared.store.Origin.{Origin}
+use Rattle.rt_nodes.specs.declared.store.Origin.TheVariants.{Brick, Text}
+use Rattle.rt_nodes.specs.declared.store.Location.{Location}
+use Rattle.rt_nodes.specs.declared.store.Location.TheVariants.{Shared, Own}
+use Rattle.rt_nodes.specs.declared.store.Datum.{Datum}
+use Rattle.rt_nodes.specs.declared.store.Datum.TheVariants.{Word, Procedure}
+use Rattle.rt_nodes.specs.declared.store.Contents.{Contents, out-Contents}
+use Rattle.rt_nodes.specs.declared.store.Contents.TheOpen.{Contents-F}
+use Rattle.rt_tree.specs.Stored.{changed, inside, written}
 use Rattle.rt_work.specs.declared.store.ModuleStore.{ModuleStore}
 
 -- what a module's bricks and strings contain, for modules 1, 2 and so on
@@ -32,20 +32,6 @@ nothing = Word 0
 abbrev pub datum_in : Option Datum → Datum
 datum_in None = nothing
 datum_in (Some d) = d
-
-abbrev pub part_of : Contents-F Contents → ℕ → Option Contents
-part_of (Contents-F.Parts parts) k = slice_get parts k
-part_of (Contents-F.Datum d) k = None
-
--- a part of contents
-abbrev pub part : Contents → ℕ → Option Contents
-part c k = part_of (out-Contents c) k
-
--- what a path leads to
-abbrev pub inside : Option Contents → List ℕ → Option Contents
-inside None path = None
-inside (Some c) [] = Some c
-inside (Some c) (k ∷ path) = inside (part c k) path
 
 abbrev pub datum_at : Contents-F Contents → Datum
 datum_at (Contents-F.Datum d) = d
@@ -75,30 +61,9 @@ read S own (Own k) = datum_in (slice_get own k)
 
 -- ---- writing
 
-abbrev pub change_found : {A : Type 0} → Option A → List A → ℕ → (A → A) → List A
-change_found None xs k f = xs
-change_found (Some x) xs k f = slice_set xs k (f x)
-
--- a list with one element changed
-abbrev pub changed : {A : Type 0} → List A → ℕ → (A → A) → List A
-changed xs k f = change_found (slice_get xs k) xs k f
-
 abbrev pub changed_number : {A : Type 0} → List A → ℕ → (A → A) → List A
 changed_number xs zero f = xs
 changed_number xs (suc n) f = changed xs n f
-
-abbrev pub with_datum : Datum → Contents-F Contents → Contents
-with_datum d (Contents-F.Datum old) = contents.Datum d
-with_datum d (Contents-F.Parts parts) = contents.Parts parts
-
-abbrev pub with_part : ℕ → (Contents → Contents) → Contents-F Contents → Contents
-with_part k f (Contents-F.Datum old) = contents.Datum old
-with_part k f (Contents-F.Parts parts) = contents.Parts (changed parts k f)
-
--- contents with a datum written where a path leads
-abbrev pub written : List ℕ → Datum → Contents → Contents
-written [] d c = with_datum d (out-Contents c)
-written (k ∷ path) d c = with_part k (λ x. written path d x) (out-Contents c)
 
 abbrev pub module_of : Origin → ℕ
 module_of (Brick m b) = m

@@ -1,7 +1,6 @@
 //! What one activation of a procedure does: its tree, its store, its invisible work, and its next visible step.
 #![tactic(auto)]
 
-mod code;
 mod control;
 mod copies;
 mod labels;
@@ -15,7 +14,6 @@ mod trees;
 mod values;
 mod work;
 
-pub use code::{Code, ModuleCode, code_of, module_at};
 pub use copies::{copy_scene, copy_values};
 pub use labels::from_label;
 pub use node::{CondNode, LabelsNode, PathNode, SeqNode, StmtNode, TermNode, TermsNode};

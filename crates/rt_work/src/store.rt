@@ -2,6 +2,7 @@
 
 ghost use Rattle.std.specs.Prelude.{◌≡◌, ◌<◌, IfOk, Some, length, slice_get, slice_set};
 ghost use Rattle.std.specs.Option.{option_copied};
+ghost use Rattle.rt_tree.specs.Stored as stored;
 ghost use Rattle.rt_work.specs.Stores as stores;
 
 use crate::copies::copy_datum;
@@ -46,7 +47,7 @@ fn origin_in(store: &List<ModuleStore>, origin: Origin) -> Option<&Contents>
 }
 
 fn part(contents: &Contents, number: u16) -> Option<&Contents>
-    ensures { option_copied result ≡ stores.part contents.now number }
+    ensures { option_copied result ≡ stored.part contents.now number }
 {
     match contents {
         Contents::Parts(parts) => parts.get(usize::from(number)),
@@ -64,7 +65,7 @@ fn datum_at(alloc: Global, contents: &Contents) -> Result<Datum, Memory>
 }
 
 fn read_inside(alloc: Global, contents: &Contents, path: &[u16]) -> Result<Datum, Memory>
-    ensures { IfOk result (λ d. d ≡ stores.datum_of (stores.inside (Some contents.now) path.now)) }
+    ensures { IfOk result (λ d. d ≡ stores.datum_of (stored.inside (Some contents.now) path.now)) }
 {
     match path {
         [] => datum_at(alloc, contents),
@@ -106,7 +107,7 @@ pub fn read(
 
 #[cycle(written)]
 fn written(contents: Contents, path: &[u16], datum: Datum) -> Contents
-    ensures { result ≡ stores.written path.now datum contents }
+    ensures { result ≡ stored.written path.now datum contents }
 {
     match path {
         [] => match contents {
@@ -122,7 +123,7 @@ fn written(contents: Contents, path: &[u16], datum: Datum) -> Contents
 
 #[cycle(written)]
 fn part_written(parts: List<Contents>, number: u16, path: &[u16], datum: Datum) -> List<Contents>
-    ensures { result ≡ stores.changed parts number (λ c. stores.written path.now datum c) }
+    ensures { result ≡ stored.changed parts number (λ c. stored.written path.now datum c) }
 {
     let at = usize::from(number);
     if at >= parts.len() {

@@ -2,10 +2,10 @@
 use Rattle.std.proofs.Common.{◌≡◌, ℕ, ◌==◌, ◌&&◌, ◌||◌, Bool, true, false, List, [], ◌∷◌, ◌++◌, Result, Ok, Err, ◌⊎◌, inl, inr, arith, lit<, refl, sym, ap, ◌∙◌, subst}
 use Rattle.std.proofs.lemmas.Bool.Decides.{nat_tests}
 use Rattle.std.specs.Prelude.{◌<◌, nat_lt, nat_le, if◌then◌else◌}
-use Rattle.rt_exprs.specs.declared.fault.CheckFault.{CheckFault}
-use Rattle.rt_exprs.specs.declared.fault.CheckFault.TheVariants.{Memory, UnknownName, WrongMode, NotAssignable, WrongCount, RefOfLocal, LeftOut, DeclaredTwice, BadStart, UnknownLabel, NoResult}
-use Rattle.rt_exprs.specs.Outcomes as plain
-use Rattle.rt_exprs.specs.Outcomes.{Outcome, Gives, earlier, sooner, is_before, item_of, number_of, UnlessMemory}
+use Rattle.rt_operands.specs.declared.fault.CheckFault.{CheckFault}
+use Rattle.rt_operands.specs.declared.fault.CheckFault.TheVariants.{Memory, UnknownName, WrongMode, NotAssignable, WrongCount, RefOfLocal, LeftOut, DeclaredTwice, BadStart, UnknownLabel, NoResult}
+use Rattle.rt_operands.specs.Outcomes as plain
+use Rattle.rt_operands.specs.Outcomes.{Outcome, Gives, earlier, sooner, is_before, item_of, number_of, UnlessMemory}
 use Rattle.rt_written.specs.Verdicts.{Verdict, fit, unfit, first_of, outcome, both, after, Answers}
 
 -- ---- the order of faults

@@ -1,10 +1,10 @@
 -- The fault that is answered counts of all that stand.
 use Rattle.std.proofs.Common.{◌≡◌, Bool, true, false, List, [], ◌∷◌, Option, Some, None, Result, Ok, Err, inl, inr, refl, sym, ap, ◌∙◌, subst}
 use Rattle.std.specs.Prelude.{IfOk, IfErr, IsTrue}
-use Rattle.rt_exprs.specs.declared.fault.CheckFault.{CheckFault}
-use Rattle.rt_exprs.specs.declared.fault.CheckFault.TheVariants.{Memory, UnknownName, WrongMode, NotAssignable, WrongCount, RefOfLocal, LeftOut, DeclaredTwice, BadStart, UnknownLabel, NoResult}
-use Rattle.rt_exprs.specs.Outcomes.{Outcome, sooner, is_before, item_of, number_of}
-use Rattle.rt_exprs.specs.Fitting.{IsLeast, Settles, IsAnswered}
+use Rattle.rt_operands.specs.declared.fault.CheckFault.{CheckFault}
+use Rattle.rt_operands.specs.declared.fault.CheckFault.TheVariants.{Memory, UnknownName, WrongMode, NotAssignable, WrongCount, RefOfLocal, LeftOut, DeclaredTwice, BadStart, UnknownLabel, NoResult}
+use Rattle.rt_operands.specs.Outcomes.{Outcome, sooner, is_before, item_of, number_of}
+use Rattle.rt_operands.specs.Outcomes.{IsLeast, Settles, IsAnswered}
 use Rattle.rt_written.specs.Verdicts.{Verdict, fit, unfit, first_of, outcome, IsIn, Stands, Answers, with_faults, GatheredCounts, GathersLeast}
 use Rattle.rt_written.proofs.Joins.{same_before, through_before, total_before, sooner_yes, sooner_no, sooner_assoc, told}
 

@@ -9,9 +9,9 @@ use Rattle.rt_expression.specs.declared.tree.WrittenMode.TheOpen.{WrittenMode-F}
 use Rattle.rt_modes.specs.declared.mode.Mode.{Mode, out-Mode}
 use Rattle.rt_modes.specs.declared.mode.Mode.TheOpen.{Mode-F}
 use Rattle.rt_modes.specs.declared.mode.Mode.TheVariants as mode
-use Rattle.rt_exprs.specs.declared.fault.CheckFault.TheVariants as fault
-use Rattle.rt_exprs.specs.declared.scope.Meaning.{Meaning}
-use Rattle.rt_exprs.specs.declared.scope.Meaning.TheVariants as meaning
+use Rattle.rt_operands.specs.declared.fault.CheckFault.TheVariants as fault
+use Rattle.rt_operands.specs.declared.scope.Meaning.{Meaning}
+use Rattle.rt_operands.specs.declared.scope.Meaning.TheVariants as meaning
 use Rattle.rt_written.specs.declared.written.Resolved.{Resolved}
 use Rattle.rt_written.specs.declared.written.Resolved.TheVariants as resolved
 use Rattle.rt_written.specs.declared.site.Site.{Site}

@@ -2,10 +2,10 @@
 
 ghost use Rattle.rt_written.specs.Verdicts.{Verdict, Answers};
 ghost use Rattle.rt_written.specs.Verdicts as spec;
-ghost use Rattle.rt_exprs.specs.Outcomes as outcomes;
+ghost use Rattle.rt_operands.specs.Outcomes as outcomes;
 ghost use Rattle.std.specs.Prelude.{◌≡◌, List};
 
-use rt_exprs::CheckFault;
+use rt_operands::CheckFault;
 use rt_words::List;
 
 /// Two that are judged apart, or the fault that counts.

@@ -2,12 +2,12 @@
 
 ghost use Rattle.std.specs.Prelude.{◌≡◌};
 ghost use Rattle.std.specs.Option.{option_copied};
-ghost use Rattle.rt_exprs.specs.Judging.{find_in};
+ghost use Rattle.rt_operands.specs.Names.{find_in};
 
-use rt_exprs::{Level, Meaning};
+use rt_operands::{Level, Meaning};
 
 /// What a name stands for in the innermost level that has it; the levels stand innermost first.
-#[tactic(auto, unfolding(rt_exprs::specs::Judging::find_in))]
+#[tactic(auto, unfolding(rt_operands::specs::Names::find_in))]
 pub fn find_name<'a>(levels: &'a [Level<'_>], name: &[u8]) -> Option<&'a Meaning>
     ensures { option_copied result ≡ find_in levels.now name.now }
 {

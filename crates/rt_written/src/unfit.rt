@@ -3,8 +3,8 @@
 ghost use Rattle.std.specs.Prelude.{◌≡◌, map, option_map, slice_get};
 ghost use Rattle.rt_written.specs.Unfit as spec;
 
-use rt_exprs::CheckFault;
 use rt_modes::Mode;
+use rt_operands::CheckFault;
 use rt_words::Boxed;
 
 /// The fault of the first unfit record that stands in a mode; `records` has the fault of each record that is unfit.

@@ -3,8 +3,8 @@
 ghost use Rattle.std.specs.Prelude.{◌≡◌, [], List, Option, map, option_map, IfOk, IfErr};
 ghost use Rattle.std.specs.Option.{option_copied};
 ghost use Rattle.rt_modes.specs.declared.mode.Mode.{out-Mode};
-ghost use Rattle.rt_exprs.specs.Fitting.{Settles, IsAnswered};
-ghost use Rattle.rt_exprs.specs.Judging.{find_in};
+ghost use Rattle.rt_operands.specs.Outcomes.{Settles, IsAnswered};
+ghost use Rattle.rt_operands.specs.Names.{find_in};
 ghost use Rattle.rt_written.specs.Verdicts.{Verdict, fit, Stands, Answers, all_from};
 ghost use Rattle.rt_written.specs.Written as spec;
 
@@ -12,9 +12,9 @@ use crate::join::{after, both};
 use crate::names::find_name;
 use crate::site::Site;
 use rt_expression::{BasicMode, WrittenMode};
-use rt_exprs::{CheckFault, Level, Meaning};
 use rt_grammar::At;
 use rt_modes::Mode;
+use rt_operands::{CheckFault, Level, Meaning};
 use rt_words::{Boxed, List};
 use std::alloc::Global;
 

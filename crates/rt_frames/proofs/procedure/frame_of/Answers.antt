@@ -1,5 +1,5 @@
-use Rattle.std.proofs.Common.{◌≡◌, ℕ, slice_get, refl, sym, ap, ◌∙◌}
-use Rattle.rt_tree.specs.declared.brick.ModuleParts.{ModuleParts}
+use Rattle.std.proofs.Common.{ℕ, slice_get, sym, ap, ◌∙◌}
+use Rattle.rt_nodes.specs.declared.brick.ModuleParts.{ModuleParts}
 use Rattle.rt_frames.specs.Frames as spec
 use Rattle.rt_frames.proofs.Framed.{frame_here}
 use Rattle.rt_frames.proofs.procedure.frame_of.Goals as goal

@@ -1,4 +1,4 @@
-use Rattle.rt_work.specs.Stores.{written}
+use Rattle.rt_tree.specs.Stored.{written}
 use Rattle.rt_work.proofs.Changes.{changed_found}
 use Rattle.rt_work.proofs.store.+written.Goals as goal
 

@@ -1,5 +1,5 @@
 use Rattle.std.proofs.Common.{◌≡◌, drop}
-use Rattle.rt_exprs.specs.Judging.{find_in}
+use Rattle.rt_operands.specs.Names.{find_in}
 use Rattle.rt_written.proofs.names.find_name.Given as goal
 
 abbrev pub invariant-loop-level : goal.invariant-loop-level

@@ -1,5 +1,5 @@
 use Rattle.std.proofs.Common.{refl, ◌∙◌}
-use Rattle.rt_exprs.specs.Judging.{find_in}
+use Rattle.rt_operands.specs.Names.{find_in}
 use Rattle.rt_written.specs.declared.site.Site.TheVariants as site
 use Rattle.rt_written.specs.Verdicts.{fit, after}
 use Rattle.rt_written.specs.Written as spec

@@ -1,6 +1,6 @@
 use Rattle.std.proofs.Common.{◌≡◌, [], List, map, drop}
 use Rattle.rt_modes.specs.declared.mode.Mode.{Mode}
-use Rattle.rt_exprs.specs.Judging.{find_in}
+use Rattle.rt_operands.specs.Names.{find_in}
 use Rattle.rt_written.specs.Verdicts.{Verdict, fit, Answers, all_from}
 use Rattle.rt_written.specs.Written as spec
 use Rattle.rt_written.proofs.written.+judge.Given as goal

@@ -1,4 +1,4 @@
-use Rattle.rt_exprs.specs.Judging.{find_in}
+use Rattle.rt_operands.specs.Names.{find_in}
 use Rattle.rt_written.specs.Written as spec
 use Rattle.rt_written.proofs.Least.{answer_fits, answer_only, answer_settles}
 use Rattle.rt_written.proofs.written.resolve.Goals as goal

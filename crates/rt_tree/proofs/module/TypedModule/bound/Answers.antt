@@ -1,6 +1,6 @@
 use Rattle.std.proofs.Common.{◌≡◌, refl, ap, ◌∙◌, arith}
 use Rattle.rt_tree.specs.Modules.{every_node_fits, with_most, bricks_with}
-use Rattle.rt_tree.specs.declared.brick.ModuleParts.{ModuleParts}
+use Rattle.rt_nodes.specs.declared.brick.ModuleParts.{ModuleParts}
 use Rattle.rt_tree.proofs.module.TypedModule.bound.Goals as goal
 use Rattle.rt_tree.proofs.module.TypedModule.bound.Goals.{in-Some, in_default}
 use Rattle.rt_tree.proofs.Bounding.{fits_still, put_there, left_there}

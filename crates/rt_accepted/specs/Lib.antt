@@ -1,0 +1,4 @@
+pub mod Texts
+pub mod Held
+pub mod Laws
+pub mod Shallow

@@ -1,0 +1,15 @@
+pub mod Items
+pub mod Yields
+pub mod Truths
+pub mod Broad
+pub mod Declarations
+pub mod BroadBricks
+pub mod Shallow
+pub mod Deeper
+pub mod ShallowBodies
+pub mod ShallowBricks
+pub mod Strings
+pub mod StringExpressions
+pub mod StringBodies
+pub mod StringStarts
+pub mod StringBricks

@@ -1,0 +1,36 @@
+//! The laws, as the contracts of functions that do nothing.
+
+ghost use Rattle.rt_derived.specs.Laws.{ItemsAreCounted, BodiesAreBroad};
+ghost use Rattle.rt_derived.specs.Modes.{ModesAreShallow, DeeperIsShallow};
+ghost use Rattle.rt_derived.specs.Strings.{StringsRise, SomeRise};
+
+/// A procedure's items, from PROC to ENDPROC, are fewer than 65,536, and no fewer than those of its parts.
+pub fn items_are_counted()
+    ensures { ItemsAreCounted }
+{}
+
+/// In the body of each procedure a SWITCH has a label, an IF a branch, and what AND and OR join are two or more.
+pub fn bodies_are_broad()
+    ensures { BodiesAreBroad }
+{}
+
+/// In each mode that a module writes no more modes open, and no more REF stand in a row, than may where it stands; a procedure
+/// has at most 32 parameters.
+pub fn modes_are_shallow()
+    ensures { ModesAreShallow }
+{}
+
+/// A mode in which so many modes may open may stand where more may.
+pub fn deeper_is_shallow()
+    ensures { DeeperIsShallow }
+{}
+
+/// The strings of a module's bodies and starts stand each behind the one before it.
+pub fn strings_rise()
+    ensures { StringsRise }
+{}
+
+/// Some of the strings, in the same order, stand each behind the one before it, too.
+pub fn some_rise()
+    ensures { SomeRise }
+{}

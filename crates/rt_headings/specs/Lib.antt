@@ -1,0 +1,4 @@
+pub mod Parts
+pub mod Bricks
+pub mod Totals
+pub mod Totaling

@@ -1,0 +1,4 @@
+mod Lists
+mod Turned
+mod Spreading
+mod Walking

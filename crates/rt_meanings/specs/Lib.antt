@@ -1,0 +1,4 @@
+pub mod Leads
+pub mod Spreading
+pub mod Levels
+pub mod Settled

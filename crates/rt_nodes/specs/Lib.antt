@@ -1,0 +1,4 @@
+pub mod Code
+pub mod Scopes
+pub mod Tree
+pub mod Typing

@@ -1,0 +1,5 @@
+mod Levels
+pub mod Same
+pub mod Joins
+pub mod Counting
+pub mod Following

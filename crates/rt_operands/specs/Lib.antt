@@ -1,0 +1,5 @@
+pub mod Modes
+pub mod Outcomes
+pub mod Operands
+pub mod Names
+pub mod Following

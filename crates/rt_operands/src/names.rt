@@ -1,0 +1,97 @@
+//! Names: of a scope, of a record's fields, and the numbers of strings.
+
+ghost use Rattle.std.specs.Prelude.{◌≡◌, IfOk, option_map};
+ghost use Rattle.std.specs.Option.{option_copied};
+ghost use Rattle.std.specs.Str.{bytes_eq};
+ghost use Rattle.rt_operands.specs.Names as spec;
+ghost use Rattle.rt_operands.specs.Operands.{seen, found_of, named, field_from, field_of};
+ghost use Rattle.rt_operands.specs.Outcomes.{Gives};
+
+use crate::fault::CheckFault;
+use crate::operand::{Meant, Operand, Standing};
+use crate::scope::{Meaning, Scope};
+use rt_grammar::At;
+use rt_modes::{Field, Mode, ModeTable};
+use rt_nodes::Place;
+
+/// What a name stands for in the innermost level that has it.
+#[tactic(auto, unfolding(crate::specs::Names::find_in))]
+pub fn find<'a>(scope: &Scope<'a>, name: &[u8]) -> Option<&'a Meaning>
+    ensures { option_copied result ≡ spec.find scope.now name.now }
+{
+    for level in scope.levels {
+        if let Some(meaning) = level.get(name) {
+            return Some(meaning);
+        }
+    }
+    None
+}
+
+/// What a name is by itself, if it stands at this place.
+pub fn name_at<'a>(meaning: Option<&'a Meaning>, at: At) -> Result<Meant<'a>, CheckFault>
+    ensures { Gives seen result (named at (option_copied meaning.entry)) }
+{
+    match meaning {
+        None => Err(CheckFault::UnknownName(at)),
+        Some(meaning) => match meaning {
+            Meaning::Proc(brick, mode) => Ok(Meant::Brick(*brick, mode)),
+            Meaning::Item(brick, item, mode) => {
+                Ok(Meant::Place(Place::Item(*brick, *item), mode, Standing::Shared))
+            }
+            Meaning::SvcItem(brick, item, mode) => {
+                Ok(Meant::Place(Place::Item(*brick, *item), mode, Standing::Private))
+            }
+            Meaning::Svc(item, mode) => {
+                if *item == 0 {
+                    return Err(CheckFault::LeftOut { form: 2, at });
+                }
+                Ok(Meant::Place(Place::Svc(*item), mode, Standing::Private))
+            }
+            Meaning::Local(local, mode) => {
+                Ok(Meant::Place(Place::Local(*local), mode, Standing::Private))
+            }
+            Meaning::Loop(local) => Ok(Meant::Loop(*local)),
+            Meaning::Unfit(fault) => Err(*fault),
+            _ => Err(CheckFault::WrongMode(at)),
+        },
+    }
+}
+
+/// The number and the mode of the first field of a name.
+#[tactic(auto, unfolding(crate::specs::Operands::field_from))]
+fn field_in<'a>(fields: &'a [Field], name: &[u8]) -> Option<(usize, &'a Mode)>
+    ensures { option_map (λ x. (x.0, x.1.now)) result ≡ field_from 0 fields.now name.now }
+{
+    for (k, field) in fields.iter().enumerate() {
+        if field.name.as_slice() == name {
+            return Some((k, &field.mode));
+        }
+    }
+    None
+}
+
+/// The number and the mode of a record's field.
+pub fn field_named<'a>(modes: &'a ModeTable, number: u16, name: &[u8]) -> Option<(u16, &'a Mode)>
+    ensures { option_map (λ x. (x.0, x.1.now)) result ≡ field_of modes.now.records number name.now }
+{
+    match modes.records.get(number as usize) {
+        None => None,
+        Some(definition) => match field_in(definition.fields.as_slice(), name) {
+            Some((k, mode)) if k < 65536 => Some((k as u16, mode)),
+            _ => None,
+        },
+    }
+}
+
+/// The string that begins at an item.
+pub fn text_at<'a>(scope: &Scope<'a>, at: At) -> Result<Operand<'a>, CheckFault>
+    ensures { Gives found_of result (spec.text_at scope.now at) }
+{
+    match scope.strings.get_index_of(&at.item) {
+        Some(number) if number < 65536 => Ok(Operand {
+            at,
+            is: Meant::Text(number as u16),
+        }),
+        _ => Err(CheckFault::WrongMode(at)),
+    }
+}

@@ -1,0 +1,14 @@
+use Rattle.std.proofs.Common.{◌≡◌, ◌+◌, ◌*◌, ◌≤◌, Some}
+use Rattle.rt_runs.specs.Runs.{after}
+use Rattle.rt_meaning.specs.Source.{world_of, state_of}
+use Rattle.rt_runs.specs.Code.{reached_at}
+use Rattle.rt_runs.proofs.Placements.{ticks_to}
+use Rattle.rt_runs.proofs.run.run_from.Given as goal
+
+abbrev pub invariant-loop-done : goal.invariant-loop-done
+invariant-loop-done l = record {
+  run : after (world_of l.fn.state) (state_of l.fn.state) l.placements l.input l.done ≡ Some (reached_at l.state l.output);
+  world : world_of l.state ≡ world_of l.fn.state;
+  clock : (state_of l.state).rules.clock ≡ (state_of l.fn.state).rules.clock + ticks_to l.placements l.done;
+  stamp : (state_of l.state).rules.stamp ≤ (state_of l.fn.state).rules.stamp + 33 * (ticks_to l.placements l.done + l.done);
+}

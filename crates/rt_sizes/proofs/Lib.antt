@@ -1,0 +1,5 @@
+pub mod Layers
+pub mod Kept
+pub mod Settling
+pub mod Reaching
+pub mod Rings

@@ -1,0 +1,4 @@
+pub mod Sizes
+pub mod Capped
+pub mod Containing
+pub mod Reaching

@@ -1,0 +1,2 @@
+//! Laws of weights of procedures.
+#![tactic(auto)]
