@@ -120,7 +120,7 @@ impl<'a> Names<'a> {
     }
 
     /// The same as the rules of expressions take it.
-    fn scope(&self) -> Scope<'_>
+    pub fn scope(&self) -> Scope<'_>
         ensures { Alike result (spec.scope_of self.now) }
     {
         Scope {
