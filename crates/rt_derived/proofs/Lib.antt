@@ -13,3 +13,8 @@ pub mod StringExpressions
 pub mod StringBodies
 pub mod StringStarts
 pub mod StringBricks
+pub mod Labels
+pub mod Ranged
+pub mod RangedExpressions
+pub mod RangedBodies
+pub mod RangedBricks

@@ -1,9 +1,10 @@
 -- The strings of a module rise.
 use Rattle.std.proofs.Common.{◌≡◌, ℕ, ◌-◌, ◌<◌, ◌≤◌, Bool, List, [], ◌∷◌, length, inl, inr, refl, sym, subst, arith}
+use Rattle.std.specs.List.{AllByRecursion}
 use Rattle.rt_pieces.specs.declared.item.Item.{Item}
 use Rattle.rt_grammar.specs.declared.at.At.{At}
 use Rattle.rt_grammar.specs.Parts.{Part, push}
-use Rattle.rt_grammar.proofs.Tails.{Tail-length}
+use Rattle.rt_grammar.proofs.Tails.{Tail, all, Tail-length}
 use Rattle.rt_expression.specs.declared.limits.Context.{Context}
 use Rattle.rt_syntax.specs.Derives.{language_limits, in_list}
 use Rattle.rt_bricks.specs.declared.tree.Declaration.{Declaration}
@@ -15,10 +16,10 @@ use Rattle.rt_bricks.proofs.DeclarationLines.{good_declaration}
 use Rattle.rt_strings.specs.Strings.{Texts, in_body}
 use Rattle.rt_counts.proofs.Parts.{Counts, done, thn as counts_then, opened, a_word, a_mark, a_place, an_ident}
 use Rattle.rt_counts.proofs.Bricks.{own_counts, parameters_count, answer_counts, any_answer_counts, semicolon_counts, options_count}
-use Rattle.rt_derived.specs.Strings.{Rise, in_declaration, in_declarations, StringsRise}
+use Rattle.rt_derived.specs.Strings.{Rise, in_declaration, in_declarations, StringsRise, IsItemText, StringsAreItems, StringsAreShort}
 use Rattle.rt_derived.proofs.Yields.{Yields}
 use Rattle.rt_derived.proofs.Yields as y
-use Rattle.rt_derived.proofs.Strings.{Strung, it, thn, behind, wider, turned}
+use Rattle.rt_derived.proofs.Strings.{Strung, it, thn, behind, wider, turned, short_texts}
 use Rattle.rt_derived.proofs.StringBodies.{derived_body_rises}
 use Rattle.rt_derived.proofs.StringStarts.{lines_rise}
 
@@ -68,17 +69,22 @@ module _ (c : Context) (few : c.total < 65536) where
 
   -- ---- the lines
 
-  Rises : (l r : List Item) (x : Declaration) → Type 0
-  Rises l r x = (found : Texts) → length l ≤ c.total → Rise 0 (c.total - length l) found → Rise 0 (c.total - length r) (in_declaration x found)
+  record Rises (l r : List Item) (x : Declaration) : Type 0 where
+    rise : (found : Texts) → length l ≤ c.total → Rise 0 (c.total - length l) found → Rise 0 (c.total - length r) (in_declaration x found)
+    theirs : (items : List Item) → length items ≡ c.total → (found : Texts) → Tail items l → AllByRecursion (IsItemText items) found → AllByRecursion (IsItemText items) (in_declaration x found)
 
   -- a declaration without strings
   quiet_rises : (l r : List Item) (x : Declaration) → length r ≤ length l → Quiet x → Rises l r x
-  unfolding Rises
-  quiet_rises l r x less quiet found within rise = subst (Rise 0 (c.total - length r)) (sym (quiet found)) (wider 0 (c.total - length l) (c.total - length r) found (omega arith) rise)
+  quiet_rises l r x less quiet = record {
+    rise = λ found within rise. subst (Rise 0 (c.total - length r)) (sym (quiet found)) (wider 0 (c.total - length l) (c.total - length r) found (omega arith) rise);
+    theirs = λ items n found from known. subst (AllByRecursion (IsItemText items)) (sym (quiet found)) known;
+  }
 
   own_line : (l r : List Item) (x : Declaration) (p : Part Declaration) → p.Fits l r x → ((found : Texts) → Strung c.total p found (λ b. in_declaration b found)) → Rises l r x
-  unfolding Rises
-  own_line l r x p fits h found within rise = (h found).strung l r x within fits rise
+  own_line l r x p fits h = record {
+    rise = λ found within rise. (h found).strung l r x within fits rise;
+    theirs = λ items n found from known. (h found).theirs items n l r x from fits known;
+  }
 
   own_rises : (l r : List Item) (x : Declaration) → length r ≤ length l → (line.own_brick c).Fits l r x → Rises l r x
   own_rises l r x less (inl fits) = own_line l r x _ fits (λ found. behind (own_counts c) (λ o. data_rises o found))
@@ -93,10 +99,10 @@ module _ (c : Context) (few : c.total < 65536) where
   declaration_by l r x less (inr (inr (inr fits))) = own_rises l r x less fits
 
   declaration_rises : (found : Texts) → Strung c.total (line.declaration c) found (λ x. in_declaration x found)
-  unfolding Rises
   declaration_rises found = record {
-    less = λ l r x fits. Tail-length ((good_declaration c).tails l r x fits);
-    strung = λ l r x within fits rise. declaration_by l r x (Tail-length ((good_declaration c).tails l r x fits)) fits found within rise;
+    tails = (good_declaration c).tails;
+    strung = λ l r x within fits rise. (declaration_by l r x (Tail-length ((good_declaration c).tails l r x fits)) fits).rise found within rise;
+    theirs = λ items n l r x from fits known. (declaration_by l r x (Tail-length ((good_declaration c).tails l r x fits)) fits).theirs items n found from known;
   }
 
   declarations_push : (ds : List Declaration) (x : Declaration) (found : Texts) → in_declarations (push ds x) found ≡ in_declaration x (in_declarations ds found)
@@ -114,3 +120,10 @@ strings_rise items x few derived =
     let none : 0 ≤ length items - length items = omega arith in
     let all : length items - 0 ≡ length items = omega arith in
     subst (λ (n : ℕ). Rise 0 n (in_declarations x.declarations [])) all ((module_rises c few).strung items [] x (omega arith) derived none)
+
+pub strings_are_items : StringsAreItems
+unfolding Derives
+strings_are_items items x few derived = (module_rises (in_list items language_limits) few).theirs items refl items [] x all derived tt
+
+pub strings_are_short : StringsAreShort
+strings_are_short items x few range derived = short_texts items (in_declarations x.declarations []) range (strings_are_items items x few derived)

@@ -8,7 +8,7 @@ use Rattle.rt_bricks.specs.declared.tree.Module.{Module}
 use Rattle.rt_bricks.specs.Derives.{Derives}
 use Rattle.rt_counts.specs.Counts.{in_procedure}
 use Rattle.rt_statements.specs.Procedures.{items_of}
-use Rattle.rt_accepted.specs.Texts.{body_is_broad}
+use Rattle.rt_accepted.specs.Texts.{labels_in_body, body_is_broad}
 
 -- The items from PROC to ENDPROC have numbers of 16 bits, and are no fewer than those of the parts.
 abbrev pub ItemsCounted : Declaration → Type 0
@@ -25,3 +25,11 @@ BodyIsBroad _ = Unit {0}
 
 abbrev pub BodiesAreBroad : Type 0
 BodiesAreBroad = (items : List Item) (it : Module) → Derives items it → AllByRecursion BodyIsBroad it.declarations
+
+-- The labels of a body have numbers of 16 bits.
+abbrev pub LabelsFew : Declaration → Type 0
+LabelsFew (declaration.Procedure b) = labels_in_body b.body < 65536
+LabelsFew _ = Unit {0}
+
+abbrev pub LabelsAreFew : Type 0
+LabelsAreFew = (items : List Item) (it : Module) → length items < 65536 → Derives items it → AllByRecursion LabelsFew it.declarations

@@ -1,6 +1,9 @@
 -- The strings of a module, in the order of their items.
-use Rattle.std.specs.Prelude.{ℕ, ◌+◌, ◌<◌, ◌≤◌, List, [], ◌∷◌, length, Option, Some, None}
+use Rattle.std.specs.Prelude.{◌≡◌, ℕ, ◌+◌, ◌<◌, ◌≤◌, List, [], ◌∷◌, length, Option, Some, None, slice_get}
+use Rattle.std.specs.List.{AllByRecursion}
 use Rattle.rt_pieces.specs.declared.item.Item.{Item}
+use Rattle.rt_pieces.specs.declared.item.ItemKind.TheVariants as kind
+use Rattle.rt_ranges.specs.Ranges.{IsByte, InRange}
 use Rattle.rt_bricks.specs.declared.tree.DataItem.{DataItem}
 use Rattle.rt_bricks.specs.declared.tree.DataLine.{DataLine}
 use Rattle.rt_bricks.specs.declared.tree.Declaration.{Declaration}
@@ -55,6 +58,27 @@ Rise low high (t ∷ ts) = (low ≤ t.0) × (t.0 < high) × Rise (t.0 + 1) high 
 abbrev pub StringsRise : Type 0
 StringsRise = (items : List Item) (it : Module) → length items < 65536 → Derives items it → Rise 0 (length items) (in_declarations it.declarations [])
 
+-- ---- whose they are
+
+-- It is the string of the item at its number.
+pub record IsItemText (items : List Item) (t : ℕ × List ℕ) : Type 0 where
+  pub item : Item
+  pub there : slice_get items t.0 ≡ Some item
+  pub is : item.kind ≡ kind.Text t.1
+
+abbrev pub StringsAreItems : Type 0
+StringsAreItems = (items : List Item) (it : Module) → length items < 65536 → Derives items it → AllByRecursion (IsItemText items) (in_declarations it.declarations [])
+
+-- a string of at most 8,191 bytes
+abbrev pub IsShortText : ℕ × List ℕ → Type 0
+IsShortText t = (length t.1 ≤ 8191) × AllByRecursion IsByte t.1
+
+-- Where each item is in range, each string is.
+abbrev pub StringsAreShort : Type 0
+StringsAreShort = (items : List Item) (it : Module) → length items < 65536 → AllByRecursion InRange items → Derives items it → AllByRecursion IsShortText (in_declarations it.declarations [])
+
+-- ---- some of them
+
 -- The first are some of the others, in the same order.
 pub data AreSome : Texts → Texts → Type 0 where
   none : AreSome [] []
@@ -64,3 +88,7 @@ pub data AreSome : Texts → Texts → Type 0 where
 -- Some of the strings rise as well, as those without the starts of arrays of bytes do.
 abbrev pub SomeRise : Type 0
 SomeRise = (low high : ℕ) (xs ys : Texts) → AreSome xs ys → Rise low high ys → Rise low high xs
+
+-- and some of those that are short are short
+abbrev pub SomeAreShort : Type 0
+SomeAreShort = (xs ys : Texts) → AreSome xs ys → AllByRecursion IsShortText ys → AllByRecursion IsShortText xs

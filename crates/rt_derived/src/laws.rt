@@ -1,8 +1,9 @@
 //! The laws, as the contracts of functions that do nothing.
 
-ghost use Rattle.rt_derived.specs.Laws.{ItemsAreCounted, BodiesAreBroad};
+ghost use Rattle.rt_derived.specs.Laws.{ItemsAreCounted, BodiesAreBroad, LabelsAreFew};
 ghost use Rattle.rt_derived.specs.Modes.{ModesAreShallow, DeeperIsShallow};
-ghost use Rattle.rt_derived.specs.Strings.{StringsRise, SomeRise};
+ghost use Rattle.rt_derived.specs.Numbers.{NumbersAreWords};
+ghost use Rattle.rt_derived.specs.Strings.{StringsRise, StringsAreItems, StringsAreShort, SomeRise, SomeAreShort};
 
 /// A procedure's items, from PROC to ENDPROC, are fewer than 65,536, and no fewer than those of its parts.
 pub fn items_are_counted()
@@ -12,6 +13,11 @@ pub fn items_are_counted()
 /// In the body of each procedure a SWITCH has a label, an IF a branch, and what AND and OR join are two or more.
 pub fn bodies_are_broad()
     ensures { BodiesAreBroad }
+{}
+
+/// The body of each procedure has fewer than 65,536 labels.
+pub fn labels_are_few()
+    ensures { LabelsAreFew }
 {}
 
 /// In each mode that a module writes no more modes open, and no more REF stand in a row, than may where it stands; a procedure
@@ -30,7 +36,27 @@ pub fn strings_rise()
     ensures { StringsRise }
 {}
 
+/// Each string of a module's bodies and starts is that of an item.
+pub fn strings_are_items()
+    ensures { StringsAreItems }
+{}
+
+/// Where each item is as large as an item may be, each string has at most 8,191 bytes, each of 8 bits.
+pub fn strings_are_short()
+    ensures { StringsAreShort }
+{}
+
 /// Some of the strings, in the same order, stand each behind the one before it, too.
 pub fn some_rise()
     ensures { SomeRise }
+{}
+
+/// Some of the strings are short, too.
+pub fn some_are_short()
+    ensures { SomeAreShort }
+{}
+
+/// Where each item is as large as an item may be, each number that a module writes is a word of 16 bits.
+pub fn numbers_are_words()
+    ensures { NumbersAreWords }
 {}
