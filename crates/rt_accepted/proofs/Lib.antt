@@ -3,4 +3,4 @@ pub mod Holding
 pub mod Sequences
 pub mod Accepted
 pub mod Brick
-mod Shallow
+pub mod Shallow

@@ -151,7 +151,8 @@ module _ (s : Names) (c : Scope) (agree : Agree s c) where
   svc_typed : (at : At) (k : ℕ) (m : Mode) (is : Is) (b : Bool) → (k == 0) ≡ b → (if b then Err (fault.LeftOut 2 at) else Ok (place (places.Svc k) m standing.Private)) ≡ Ok is → IsThere c (meaning.Svc k m) → IsTyped c is
   svc_typed at k m is true n e h = absurd cc
   svc_typed at k m is false n e h =
-      subst (IsTyped c) (same_is (place (places.Svc k) m standing.Private) is _ refl e) (inl (svc_place c k ∙ rw h.0 refl, h.1 (λ z. let bad : false ≡ true = sym n ∙ rw z refl in cc)))
+      let there = h (λ z. let bad : false ≡ true = sym n ∙ rw z refl in cc) in
+      subst (IsTyped c) (same_is (place (places.Svc k) m standing.Private) is _ refl e) (inl (svc_place c k ∙ rw there.0 refl, there.1))
 
   meaning_typed : (at : At) (x : Meaning) (is : Is) → IsThere c x → named at (Some x) ≡ Ok is → IsTyped c is
   meaning_typed at (meaning.Proc k m) is h e = subst (IsTyped c) (same_is (brick k m) is _ refl e) h

@@ -55,13 +55,13 @@ IsValue m = (stands m).value ≡ true
 
 -- ---- what names stand for
 
--- What a name stands for is there in the tree, and has the mode. ERL, which is item 0 of the task's own data, has no mode that
--- an expression may use.
+-- What a name stands for is there in the tree, and has the mode. Of ERL, which is item 0 of the task's own data, nothing is
+-- asked, since no expression may use it.
 abbrev pub IsThere : Scope → Meaning → Type 0
 IsThere c (meaning.Proc b m) = (proc_mode c.bricks b ≡ Some m) × IsValue m
 IsThere c (meaning.Item b i m) = (item_found c.bricks b i ≡ Some (Shared m)) × IsItem m
 IsThere c (meaning.SvcItem b i m) = (item_found c.bricks b i ≡ Some (Private m)) × IsItem m
-IsThere c (meaning.Svc k m) = (svc_mode c k ≡ Some m) × (k ≢ 0 → IsItem m)
+IsThere c (meaning.Svc k m) = k ≢ 0 → (svc_mode c k ≡ Some m) × IsItem m
 IsThere c (meaning.Local k m) = (slice_get c.locals k ≡ Some (local.Variable m)) × IsValue m
 IsThere c (meaning.Loop k) = slice_get c.locals k ≡ Some local.Loop
 IsThere c _ = Unit {0}

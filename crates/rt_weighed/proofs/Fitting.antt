@@ -115,11 +115,12 @@ module _ (c : Scope) where
   module _ (s : Names) (agree : Agree s c) (all : AllFew c) where
     -- ---- names
 
-    svc_within : (at : At) (k : ℕ) (m : Mode) (is : Is) (b : Bool) → (if b then Err (fault.LeftOut 2 at) else Ok (place (places.Svc k) m standing.Private)) ≡ Ok is → IsThere c (meaning.Svc k m) → Within c 1 is
-    svc_within at k m is true e h = absurd cc
-    svc_within at k m is false e h =
+    svc_within : (at : At) (k : ℕ) (m : Mode) (is : Is) (b : Bool) → (k == 0) ≡ b → (if b then Err (fault.LeftOut 2 at) else Ok (place (places.Svc k) m standing.Private)) ≡ Ok is → IsThere c (meaning.Svc k m) → Within c 1 is
+    svc_within at k m is true n e h = absurd cc
+    svc_within at k m is false n e h =
+        let there = h (λ z. let bad : false ≡ true = sym n ∙ rw z refl in cc) in
         subst (Within c 1) (same_is (place (places.Svc k) m standing.Private) is _ refl e)
-        (in_path true (Svc k) (svc_place c k ∙ rw h.0 refl) (tree_svc c k) (record { weight = omega arith; depth = omega arith }), all.own k m h.0)
+        (in_path true (Svc k) (svc_place c k ∙ rw there.0 refl) (tree_svc c k) (record { weight = omega arith; depth = omega arith }), all.own k m there.0)
 
     meaning_within : (at : At) (x : Meaning) (is : Is) → IsThere c x → named at (Some x) ≡ Ok is → Within c 1 is
     meaning_within at (meaning.Proc k m) is h e = subst (Within c 1) (same_is (brick k m) is _ refl e) (omega arith, all.procedures k m h.0)
@@ -129,7 +130,7 @@ module _ (c : Scope) where
     meaning_within at (meaning.SvcItem b i m) is h e =
         subst (Within c 1) (same_is (place (places.Item b i) m standing.Private) is _ refl e)
         (in_path true (ItemAt b i) (item_place c b i ∙ h.0) (tree_item c b i) (record { weight = omega arith; depth = omega arith }), all.items b i (Private m) h.0)
-    meaning_within at (meaning.Svc k m) is h e = svc_within at k m is (k == 0) e h
+    meaning_within at (meaning.Svc k m) is h e = svc_within at k m is (k == 0) refl e h
     meaning_within at (meaning.Local k m) is h e =
         subst (Within c 1) (same_is (place (places.Local k) m standing.Private) is _ refl e)
         (in_local k (local_place c k ∙ rw h.0 refl) (tree_local c k) (omega arith), all.locals k m h.0)
