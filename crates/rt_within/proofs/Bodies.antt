@@ -1,7 +1,6 @@
 -- A body stays within its items.
-use Rattle.std.proofs.Common.{◌≡◌, ℕ, ◌+◌, ◌*◌, ◌≤◌, ◌&&◌, Bool, true, false, List, [], ◌∷◌, length, map, Option, Some, None, arith, refl, sym, ap, ◌∙◌, subst}
+use Rattle.std.proofs.Common.{◌≡◌, ℕ, ◌+◌, ◌*◌, ◌&&◌, Bool, true, false, List, [], ◌∷◌, length, map, Option, Some, None, arith, refl, sym, ◌∙◌, subst}
 use Rattle.std.specs.Prelude.{nat_lt}
-use Rattle.rt_grammar.specs.declared.at.At.{At}
 use Rattle.rt_grammar.specs.declared.at.Ident.{Ident}
 use Rattle.rt_counts.specs.Counts.{sum, listed, in_locals, in_stat, in_body, in_branch, in_line, in_cond, stat_items}
 use Rattle.rt_syntax.specs.declared.tree.Body.{Body, out-Body, roll-Body, map-Body}
@@ -14,7 +13,6 @@ use Rattle.rt_syntax.specs.declared.tree.Simple.TheFolds.{ind-Body, fold_out-Sim
 use Rattle.rt_syntax.specs.declared.tree.Simple.TheOpen.{Simple-F, Body-F, Branch-F, Stmt-F}
 use Rattle.rt_syntax.specs.declared.tree.Stmt.{Stmt, out-Stmt, roll-Stmt, map-Stmt}
 use Rattle.rt_syntax.specs.declared.tree.Stmt as stmt_lemmas
-use Rattle.rt_expression.specs.declared.tree.Cond.{Cond}
 use Rattle.rt_typing.specs.Laws.{joins_two}
 use Rattle.rt_statements.specs.declared.answer.Answer.{Answer}
 use Rattle.rt_statements.specs.Statements as spec

@@ -1,5 +1,5 @@
 -- Statements by themselves stay within their items.
-use Rattle.std.proofs.Common.{◌≡◌, ℕ, suc, ◌+◌, ◌*◌, ◌<◌, ◌≤◌, max, true, List, [], ◌∷◌, ◌++◌, length, Option, Some, None, Ok, Err, arith, refl, sym, ap, ◌∙◌, subst}
+use Rattle.std.proofs.Common.{◌≡◌, ℕ, suc, ◌+◌, ◌<◌, ◌≤◌, true, List, [], ◌∷◌, ◌++◌, length, Option, Some, None, Ok, Err, arith, refl, ap, ◌∙◌, subst}
 use Rattle.std.specs.List.{list_all}
 use Rattle.rt_grammar.specs.declared.at.At.{At}
 use Rattle.rt_grammar.specs.declared.at.Ident.{Ident}
@@ -9,19 +9,15 @@ use Rattle.rt_expression.specs.declared.tree.Expr.{Expr}
 use Rattle.rt_counts.specs.Counts.{names, in_expr, in_chain, in_cond, behind_one}
 use Rattle.rt_modes.specs.declared.mode.Mode.{Mode}
 use Rattle.rt_modes.specs.declared.mode.Mode.TheVariants as mode
-use Rattle.rt_nodes.specs.declared.brick.Local.{Local as Made}
 use Rattle.rt_nodes.specs.declared.operators.Rel.TheVariants as rel
 use Rattle.rt_nodes.specs.declared.statement.Stat.{Stat}
 use Rattle.rt_nodes.specs.declared.statement.Stat.TheVariants as stats
-use Rattle.rt_nodes.specs.declared.statement.Test.{Test}
 use Rattle.rt_nodes.specs.declared.statement.Test.TheVariants as tests
-use Rattle.rt_nodes.specs.declared.value.Place.{Place}
 use Rattle.rt_nodes.specs.declared.value.Value.{Value}
 use Rattle.rt_nodes.specs.declared.value.Value.TheVariants as values
 use Rattle.rt_nodes.specs.Scopes.{Scope}
-use Rattle.rt_nodes.specs.Tree.{Term, Path}
+use Rattle.rt_nodes.specs.Tree.{Term}
 use Rattle.rt_nodes.specs.Typing.{Placed, Valued, Spot, OnLocal, OnPath, OnRow, placed, valued}
-use Rattle.rt_operands.specs.declared.fault.CheckFault.{CheckFault}
 use Rattle.rt_operands.specs.Outcomes.{Outcome, ◌>>=◌}
 use Rattle.rt_exprs.specs.Judging.{alone, target, val_target}
 use Rattle.rt_tree.specs.Depth.{depth, address_depth}
@@ -39,7 +35,6 @@ use Rattle.rt_accepted.proofs.Growing.{Pre, Growing, grow_found, grow_goto, grow
 use Rattle.rt_weighed.proofs.Conditions.{comparison_within}
 use Rattle.rt_weighed.proofs.Reached.{behind_least}
 use Rattle.rt_weighed.proofs.Suited.{number_within}
-use Rattle.rt_weighed.proofs.Trees.{tree_number}
 use Rattle.rt_weighed.specs.Parts.{ValueWithin, CallWithin, SpotWithin, ConditionWithin, StatementWithin}
 use Rattle.rt_weighed.specs.Refs.{AllFew}
 use Rattle.rt_within.proofs.Judged.{value_judged, target_judged, val_judged, call_judged, test_judged}
@@ -225,7 +220,7 @@ labels_many s done (n ∷ ns) t =
     let u : ℕ × Tally = label_or (label_in s n) t in
     labels_many s (done ++ u.0 ∷ []) ns u.1 ∙ omega (arith, one_longer done u.0)
 
-labels_locals : (s : Sight) (done : List ℕ) (ns : List Ident) (t : Tally) → (labels_in s done ns t).1.locals ≡ t.locals
+pub labels_locals : (s : Sight) (done : List ℕ) (ns : List Ident) (t : Tally) → (labels_in s done ns t).1.locals ≡ t.locals
 labels_locals s done [] t = refl
 labels_locals s done (n ∷ ns) t =
     let u : ℕ × Tally = label_or (label_in s n) t in

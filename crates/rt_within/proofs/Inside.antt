@@ -1,11 +1,11 @@
 -- Statements with parts stay within their items, where the parts do.
-use Rattle.std.proofs.Common.{◌≡◌, ℕ, suc, ◌+◌, ◌*◌, ◌%◌, ◌<◌, ◌≤◌, max, true, List, [], ◌∷◌, ◌++◌, length, map, Option, Some, None, append_assoc, arith, refl, sym, ap, ◌∙◌, subst}
+use Rattle.std.proofs.Common.{◌≡◌, ℕ, ◌+◌, ◌*◌, ◌≤◌, max, true, List, [], ◌∷◌, ◌++◌, length, map, Option, Some, None, append_assoc, arith, sym, ap, ◌∙◌, subst}
 use Rattle.std.specs.Prelude.{slice_get}
 use Rattle.std.proofs.lemmas.List.{append-nil}
 use Rattle.rt_grammar.specs.declared.at.At.{At}
 use Rattle.rt_expression.specs.declared.tree.Cond.{Cond as Written}
 use Rattle.rt_expression.specs.declared.tree.Expr.{Expr}
-use Rattle.rt_counts.specs.Counts.{sum, listed, in_expr, in_cond, in_locals, behind_one, in_control}
+use Rattle.rt_counts.specs.Counts.{sum, listed, in_expr, in_cond, in_locals, in_control}
 use Rattle.rt_syntax.specs.declared.tree.Control.{Control}
 use Rattle.rt_syntax.specs.declared.tree.Locals.{Locals}
 use Rattle.rt_syntax.specs.declared.tree.Simple.TheOpen.{Simple-F}
@@ -13,11 +13,10 @@ use Rattle.rt_nodes.specs.declared.brick.Local.{Local as Made}
 use Rattle.rt_nodes.specs.declared.brick.Local.TheVariants as made
 use Rattle.rt_nodes.specs.declared.statement.Branch.{Branch as BranchMade}
 use Rattle.rt_nodes.specs.declared.statement.Labelled.{Labelled}
-use Rattle.rt_nodes.specs.declared.statement.LocalStart.{LocalStart}
 use Rattle.rt_nodes.specs.declared.statement.Test.{Test}
 use Rattle.rt_nodes.specs.declared.value.Value.{Value}
 use Rattle.rt_nodes.specs.Scopes.{Scope}
-use Rattle.rt_nodes.specs.Tree.{Cond, Seq, If}
+use Rattle.rt_nodes.specs.Tree.{Cond, Seq}
 use Rattle.rt_operands.specs.declared.scope.Meaning.TheVariants as meaning
 use Rattle.rt_tree.specs.Depth.{condition_depth, sequence_depth}
 use Rattle.rt_tree.specs.Statements.{Sight as Seen, body_tree, sequence_tree, branches_tree, if_tree}
@@ -29,17 +28,17 @@ use Rattle.rt_names.specs.Sights.{Sight, within, test_in}
 use Rattle.rt_statements.specs.declared.answer.Answer.{Answer}
 use Rattle.rt_statements.specs.declared.plain.Bounds.{Bounds}
 use Rattle.rt_statements.specs.Statements as spec
-use Rattle.rt_statements.specs.Statements.{Line, Declared, JudgedStat, JudgedBody, JudgedBranch, before, declarations, branches, sequence, bounds_in, variable_of, for_loop, to_loop, int_in, any_int_in}
+use Rattle.rt_statements.specs.Statements.{Line, Declared, JudgedBody, JudgedBranch, before, declarations, branches, sequence, bounds_in, variable_of, for_loop, to_loop, int_in, any_int_in}
 use Rattle.rt_accepted.specs.Held.{Holds, EntryHolds}
-use Rattle.rt_accepted.proofs.Growing.{Pre, pre_then, Grew, grew_same, grew_then, Growing, BranchesGrow, grow_found, grow_declarations, grow_sequence, grow_branches, grow_for, grow_to, grow_three}
+use Rattle.rt_accepted.proofs.Growing.{Pre, pre_then, grew_same, grew_then, Growing, BranchesGrow, grow_found, grow_declarations, grow_sequence, grow_branches, grow_for, grow_to}
 use Rattle.rt_accepted.proofs.Holding.{holds_within, declared_holds}
 use Rattle.rt_accepted.proofs.Sequences.{one_longer, pre_length, pre_get, small_rest}
 use Rattle.rt_weighed.specs.Parts.{SequenceWithin, StatementWithin}
 use Rattle.rt_within.proofs.Good.{Around, StatGood, int_stays, int_locals, step_stays, step_locals, test_stays, test_locals}
 use Rattle.rt_within.proofs.Least.{sum_listed}
 use Rattle.rt_within.proofs.Lines.{AllGood, all_grow, sequence_counts, sequence_within}
-use Rattle.rt_within.proofs.Locals.{StartsWithin, DeclaredWithin, declarations_count, declarations_within}
-use Rattle.rt_within.proofs.Made.{stat_of, branch_of, line_of, made_block, made_while, made_to, made_for, made_if, made_else, made_body, made_branch}
+use Rattle.rt_within.proofs.Locals.{StartsWithin, declarations_count, declarations_within}
+use Rattle.rt_within.proofs.Made.{branch_of, line_of, made_block, made_while, made_to, made_for, made_if, made_else, made_body, made_branch}
 
 pub record BodyGood (p : JudgedBody) (n : ℕ) : Type 0 where
   pub grows : (s : Sight) → Growing (p s)
@@ -128,7 +127,7 @@ loop_there c a t f =
     let number : next_local t ≡ length t.locals = small_rest (length t.locals) (omega (arith, a.small, pre_length one, one_longer t.locals made.Loop)) in
     ap (slice_get c.locals) number ∙ pre_get t.locals made.Loop c.locals one
 
-bounds_locals : (s : Sight) (d : Control) (e : Expr) (t : Tally) → (bounds_in s d e t).1.locals ≡ t.locals
+pub bounds_locals : (s : Sight) (d : Control) (e : Expr) (t : Tally) → (bounds_in s d e t).1.locals ≡ t.locals
 bounds_locals s d e t =
     let u : Value × Tally = int_in s d.start t in
     let v : Option Value × Tally = any_int_in s d.step u.1 in

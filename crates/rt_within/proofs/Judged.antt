@@ -1,5 +1,5 @@
 -- What is judged fit where names and tree agree stays within its items.
-use Rattle.std.proofs.Common.{◌≡◌, ℕ, ◌+◌, ◌≤◌, true, Option, Some, None, Ok, arith, refl, subst}
+use Rattle.std.proofs.Common.{◌≡◌, ◌+◌, true, Ok, refl, subst}
 use Rattle.rt_grammar.specs.declared.at.At.{At}
 use Rattle.rt_expression.specs.declared.tree.Chain.{Chain}
 use Rattle.rt_expression.specs.declared.tree.Cond.{Cond}

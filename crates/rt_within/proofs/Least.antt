@@ -1,9 +1,9 @@
 -- Each expression has an item at least, and each condition three.
-use Rattle.std.proofs.Common.{◌≡◌, ℕ, ◌+◌, ◌≤◌, ◌&&◌, Bool, true, false, List, [], ◌∷◌, length, map, arith, refl, sym, ◌∙◌, subst}
+use Rattle.std.proofs.Common.{◌≡◌, ℕ, ◌≤◌, ◌&&◌, Bool, true, false, List, [], ◌∷◌, length, map, arith, refl, sym, ◌∙◌}
 use Rattle.std.specs.Prelude.{nat_le}
 use Rattle.rt_grammar.specs.declared.at.At.{At}
 use Rattle.rt_grammar.specs.declared.at.Ident.{Ident}
-use Rattle.rt_expression.specs.declared.tree.Chain.{Chain, out-Chain}
+use Rattle.rt_expression.specs.declared.tree.Chain.{Chain}
 use Rattle.rt_expression.specs.declared.tree.Cond.{Cond, out-Cond, roll-Cond, map-Cond}
 use Rattle.rt_expression.specs.declared.tree.Cond as cond_lemmas
 use Rattle.rt_expression.specs.declared.tree.Cond.TheFolds.{ind-Cond, fold_out-Cond}
@@ -11,7 +11,7 @@ use Rattle.rt_expression.specs.declared.tree.Cond.TheOpen.{Cond-F}
 use Rattle.rt_expression.specs.declared.tree.Expr.{Expr, out-Expr}
 use Rattle.rt_expression.specs.declared.tree.Expr.TheOpen.{Expr-F}
 use Rattle.rt_expression.specs.declared.tree.Link.{Link}
-use Rattle.rt_counts.specs.Counts.{sum, further, listed, names, in_expr, in_link, in_chain, in_cond}
+use Rattle.rt_counts.specs.Counts.{sum, further, listed, names, in_expr, in_chain, in_cond}
 use Rattle.rt_typing.specs.Laws.{joins_two, all_true}
 use Rattle.rt_weighed.proofs.Items.{number_items, text_items, chain_items_in, val_items, monadic_items, dyadic_items, links_items, or_items, and_items, compare_items}
 

@@ -1,8 +1,15 @@
-mod Made
-mod Least
-mod Judged
-mod Good
-mod Lines
-mod Locals
-mod Inside
-mod Bodies
+pub mod Made
+pub mod Least
+pub mod Judged
+pub mod Good
+pub mod Lines
+pub mod Locals
+pub mod Inside
+pub mod Bodies
+pub mod Refs
+pub mod Procedures
+pub mod Modules
+pub mod Named
+pub mod Standing
+pub mod StandingBodies
+pub mod Bounds

@@ -1,5 +1,5 @@
 -- Sequences stay within their items, where each of their statements does.
-use Rattle.std.proofs.Common.{◌≡◌, ℕ, suc, ◌+◌, ◌*◌, ◌%◌, ◌<◌, ◌≤◌, max, Bool, true, false, List, [], ◌∷◌, ◌++◌, length, map, Option, Some, None, option_map, append_assoc, arith, refl, sym, ap, ◌∙◌, subst}
+use Rattle.std.proofs.Common.{◌≡◌, ℕ, ◌+◌, ◌<◌, ◌≤◌, Bool, true, false, List, [], ◌∷◌, ◌++◌, length, map, Option, Some, None, option_map, append_assoc, arith, refl, sym, ap, ◌∙◌, subst}
 use Rattle.std.proofs.lemmas.List.{append-nil}
 use Rattle.rt_grammar.specs.declared.at.Ident.{Ident}
 use Rattle.rt_counts.specs.Counts.{sum}
@@ -12,7 +12,7 @@ use Rattle.rt_operands.specs.declared.scope.Meaning.TheVariants as meaning
 use Rattle.rt_tree.specs.Statements.{Sight as Seen, labels_from, sight_with, marks, labelled_tree, sequence_tree}
 use Rattle.rt_names.specs.declared.tally.Tally.{Tally}
 use Rattle.rt_names.specs.Parts.{noted_if, label_more, labels_more, numbers_from}
-use Rattle.rt_names.specs.Sights.{Names, Sight, holds, declared, within}
+use Rattle.rt_names.specs.Sights.{Names, Sight, holds, within}
 use Rattle.rt_statements.specs.Statements.{Line, labels_of, labels_at, labelled, in_order, sequence}
 use Rattle.rt_accepted.specs.Held.{Holds, LevelHolds}
 use Rattle.rt_accepted.proofs.Growing.{Pre, pre_then, LineGrows, LinesGrow, grow_order}
@@ -52,7 +52,7 @@ labels_keep : (l : Names) (ns : List Ident) (t : Tally) → (labels_more l ns t)
 labels_keep l [] t = refl
 labels_keep l (n ∷ ns) t = let u : Names × Tally = label_more l n t in labels_keep u.0 ns u.1 ∙ noted_locals (holds l n.name) _ t
 
-all_labels_keep : (l : Names) (nss : List (List Ident)) (t : Tally) → (labels_of l nss t).1.locals ≡ t.locals
+pub all_labels_keep : (l : Names) (nss : List (List Ident)) (t : Tally) → (labels_of l nss t).1.locals ≡ t.locals
 all_labels_keep l [] t = refl
 all_labels_keep l (ns ∷ nss) t = let u : Names × Tally = labels_more l ns t in all_labels_keep u.0 nss u.1 ∙ labels_keep l ns t
 

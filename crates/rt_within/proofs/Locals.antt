@@ -1,5 +1,5 @@
 -- Declarations of locals stay within their items.
-use Rattle.std.proofs.Common.{◌≡◌, ℕ, suc, ◌+◌, ◌*◌, ◌%◌, ◌<◌, ◌≤◌, max, not, Bool, true, false, List, [], ◌∷◌, ◌++◌, length, map, Option, Some, None, Ok, Err, append_assoc, arith, refl, sym, ap, ◌∙◌, subst}
+use Rattle.std.proofs.Common.{◌≡◌, ℕ, ◌+◌, ◌*◌, ◌≤◌, max, not, Bool, true, false, List, [], ◌∷◌, ◌++◌, length, map, Option, Some, None, Ok, Err, append_assoc, arith, refl, sym, ap, ◌∙◌, subst}
 use Rattle.std.specs.Prelude.{slice_get}
 use Rattle.std.proofs.lemmas.List.{append-nil}
 use Rattle.rt_grammar.specs.declared.at.Ident.{Ident}
@@ -25,28 +25,27 @@ use Rattle.rt_tree.specs.Weights.{sequence_weight}
 use Rattle.rt_names.specs.declared.tally.Tally.{Tally}
 use Rattle.rt_names.specs.Parts.{noted_if, next_local, mode_or}
 use Rattle.rt_names.specs.Sights.{Sight, holds, innermost, value_in, mode_in}
-use Rattle.rt_statements.specs.Statements.{Declared, start_in, placed, local_fit, local_unfit, local_more, locals_more, line_more, declarations}
+use Rattle.rt_statements.specs.Statements.{Declared, start_in, local_fit, local_more, locals_more, line_more, declarations}
 use Rattle.rt_accepted.specs.Held.{Holds, EntryHolds}
 use Rattle.rt_accepted.proofs.Accepted.{local_value}
-use Rattle.rt_accepted.proofs.Growing.{Pre, pre_then, grow_locals, grow_declarations, grow_placed}
+use Rattle.rt_accepted.proofs.Growing.{Pre, pre_then, grow_locals, grow_declarations}
 use Rattle.rt_accepted.proofs.Holding.{holds_named}
 use Rattle.rt_accepted.proofs.Sequences.{one_longer, pre_length, pre_get, small_rest}
 use Rattle.rt_weighed.specs.Parts.{StatementWithin}
-use Rattle.rt_weighed.specs.Refs.{AllFew}
 use Rattle.rt_within.proofs.Good.{Around, found_locals, value_stays}
 use Rattle.rt_within.proofs.Least.{sum_listed}
 
-noted_locals : (b : Bool) (g : CheckFault) (t : Tally) → (noted_if b g t).locals ≡ t.locals
+pub noted_locals : (b : Bool) (g : CheckFault) (t : Tally) → (noted_if b g t).locals ≡ t.locals
 noted_locals true g t = refl
 noted_locals false g t = refl
 
-mode_locals : (o : Outcome Mode) (t : Tally) → (mode_or o t).1.locals ≡ t.locals
+pub mode_locals : (o : Outcome Mode) (t : Tally) → (mode_or o t).1.locals ≡ t.locals
 mode_locals (Ok m) t = refl
 mode_locals (Err g) t = refl
 
 -- ---- how many are added
 
-start_locals : (s : Sight) (n : Ident) (m : Mode) (e : Option Expr) (t : Tally) → (start_in s n m e t).1.locals ≡ t.locals
+pub start_locals : (s : Sight) (n : Ident) (m : Mode) (e : Option Expr) (t : Tally) → (start_in s n m e t).1.locals ≡ t.locals
 start_locals s n m None t = noted_locals (not (starts_at_zero (out-Mode m))) (fault.BadStart n.at) t
 start_locals s n m (Some e) t = found_locals (values.Number 0) (value_in s e m) t
 

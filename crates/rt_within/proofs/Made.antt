@@ -1,8 +1,8 @@
 -- What the trees of statements are, by the form of each.
-use Rattle.std.proofs.Common.{◌≡◌, ℕ, List, Option, Some, None, option_map, map, refl, ap}
-use Rattle.rt_nodes.specs.declared.statement.Body.{Body, out-Body, roll-Body, map-Body}
+use Rattle.std.proofs.Common.{◌≡◌, ℕ, List, Option, Some, None, option_map, map, refl}
+use Rattle.rt_nodes.specs.declared.statement.Body.{Body, out-Body, roll-Body}
 use Rattle.rt_nodes.specs.declared.statement.Body as body_lemmas
-use Rattle.rt_nodes.specs.declared.statement.Branch.{Branch, out-Branch, roll-Branch, map-Branch}
+use Rattle.rt_nodes.specs.declared.statement.Branch.{Branch, out-Branch, roll-Branch}
 use Rattle.rt_nodes.specs.declared.statement.Branch as branch_lemmas
 use Rattle.rt_nodes.specs.declared.statement.Labelled.{Labelled, out-Labelled, roll-Labelled, map-Labelled}
 use Rattle.rt_nodes.specs.declared.statement.Labelled as labelled_lemmas
@@ -18,7 +18,7 @@ use Rattle.rt_nodes.specs.declared.value.Value.{Value}
 use Rattle.rt_nodes.specs.Scopes.{Scope}
 use Rattle.rt_nodes.specs.Tree.{Cond, Stmt, Goto, GiveBack, Back, Switch, Inner, For, To, While, Seq}
 use Rattle.rt_nodes.specs.Typing.{placed, valued}
-use Rattle.rt_tree.specs.Statements.{stat_tree, body_tree, starts_tree, sequence_tree, labelled_tree, if_tree, otherwise_tree, call_tree, assigned_tree, step_tree, return_tree, tested}
+use Rattle.rt_tree.specs.Statements.{stat_tree, body_tree, starts_tree, sequence_tree, labelled_tree, if_tree, otherwise_tree, call_tree, assigned_tree, step_tree, tested}
 
 module _ (c : Scope) where
   abbrev body_by : Body-F Stmt Seq (Cond × Seq) (Seq → Seq) → Seq
