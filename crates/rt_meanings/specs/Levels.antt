@@ -2,7 +2,8 @@
 use Rattle.std.specs.Prelude.{ℕ, ◌==◌, Bool, true, false, ◌&&◌, if◌then◌else◌, List, [], ◌∷◌, codes, map, Option, Some, None, slice_get}
 use Rattle.std.specs.Str.{bytes_eq}
 use Rattle.rt_modes.specs.declared.mode.Field.{Field}
-use Rattle.rt_modes.specs.declared.mode.Mode.{Mode}
+use Rattle.rt_modes.specs.declared.mode.Mode.{Mode, out-Mode}
+use Rattle.rt_modes.specs.declared.mode.Mode.TheOpen.{Mode-F}
 use Rattle.rt_nodes.specs.declared.brick.Kind.{Kind}
 use Rattle.rt_nodes.specs.Scopes.{passes, is_svc, is_error_data, is_stream_data}
 use Rattle.rt_operands.specs.declared.scope.Meaning.{Meaning}
@@ -84,10 +85,15 @@ abbrev pub brick_in : ℕ → Option Heading → Meaning
 brick_in b None = meaning.Stack b
 brick_in b (Some h) = brick_by b h.sort
 
+-- An item of SVC data that isn't as supplied. LABEL is the mode of ERL alone, which is the task's own.
+abbrev pub other_item : ℕ → ℕ → Mode → Mode-F Mode → Meaning
+other_item b j m Mode-F.Label = meaning.Svc 0 m
+other_item b j m _ = meaning.SvcItem b j m
+
 -- Item j of brick b, of a mode: one of a task's own supplied data, of other SVC data, or of data that all tasks share.
 abbrev pub item_with : Kind → Option (Option Own) → ℕ → ℕ → Mode → Meaning
 item_with k (Some (Some o)) b j m = meaning.Svc (own_item o j) m
-item_with k _ b j m = if is_svc k then meaning.SvcItem b j m else meaning.Item b j m
+item_with k _ b j m = if is_svc k then other_item b j m (out-Mode m) else meaning.Item b j m
 
 abbrev pub given_as : Kind → Option (Option Own) → ℕ → ℕ → Given → Meaning
 given_as k o b j (given.Unfit g) = meaning.Unfit g

@@ -3,6 +3,7 @@
 ghost use Rattle.std.specs.Prelude.{◌≡◌, [], IfOk, OnOk, option_map, slice_get};
 ghost use Rattle.rt_declare.specs.Naming.{plain, plain_entry};
 ghost use Rattle.rt_meanings.specs.Levels as spec;
+ghost use Rattle.rt_modes.specs.declared.mode.Mode.{out-Mode};
 ghost use Rattle.rt_names.specs.Seen.{names_of};
 ghost use Rattle.std.specs.Option.{option_copied};
 
@@ -53,11 +54,7 @@ fn add_mode_at<'m>(
 }
 
 /// Adds a name, where it is that of a MODE.
-fn add_mode<'m>(
-    name: &'m [u8],
-    declared: Declared,
-    level: &mut Level<'m>,
-) -> Result<(), Memory>
+fn add_mode<'m>(name: &'m [u8], declared: Declared, level: &mut Level<'m>) -> Result<(), Memory>
     ensures { OnOk result (names_of level.new ≡ spec.with_mode (names_of level.old) (name.now, declared)) }
 {
     if let Declared::Record(record) = declared {
@@ -186,12 +183,22 @@ impl<'s> Seen<'s> {
             Some(Some(own)) => Meaning::Svc(own.item(item), mode),
             _ => {
                 if is_service(kind) {
-                    Meaning::SvcItem(brick, item, mode)
+                    other_item(brick, item, mode)
                 } else {
                     Meaning::Item(brick, item, mode)
                 }
             }
         }
+    }
+}
+
+/// An item of SVC data that isn't as supplied. LABEL is the mode of ERL alone, which is the task's own.
+fn other_item(brick: u16, item: u16, mode: Mode) -> Meaning
+    ensures { result ≡ spec.other_item brick item mode (out-Mode mode) }
+{
+    match &mode {
+        Mode::Label => Meaning::Svc(0, mode),
+        _ => Meaning::SvcItem(brick, item, mode),
     }
 }
 

@@ -8,4 +8,4 @@ use Rattle.rt_meanings.proofs.levels.module_level.Goals as goal
 pub loop-number-preserved : goal.loop-number-preserved
 loop-number-preserved c =
     one_added c.as_slice.result.now c.args.bricks.now (plain c.args.names.now.table.entries) c.loop-number.number (names_of c.loop-number.level) (names_of c.add_name_at.new.level)
-        (with_all c.as_slice.result.now c.args.bricks.now [] (plain c.args.names.now.table.entries)) c.in_ok-add_name_at.ensures c.loop-number.invariant
+    (with_all c.as_slice.result.now c.args.bricks.now [] (plain c.args.names.now.table.entries)) c.in_ok-add_name_at.ensures c.loop-number.invariant
