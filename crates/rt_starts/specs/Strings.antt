@@ -1,5 +1,5 @@
 -- The strings of starts that are strings of the module.
-use Rattle.std.specs.Prelude.{ℕ, ◌==◌, ◌||◌, Bool, false, if◌then◌else◌, List, [], ◌∷◌, ◌++◌, Option, Some, None, drop, length}
+use Rattle.std.specs.Prelude.{◌≡◌, ℕ, ◌==◌, ◌||◌, Bool, false, if◌then◌else◌, List, [], ◌∷◌, ◌++◌, Option, Some, None, drop, length}
 use Rattle.rt_bricks.specs.declared.tree.DataItem.{DataItem}
 use Rattle.rt_bricks.specs.declared.tree.DataLine.{DataLine}
 use Rattle.rt_bricks.specs.declared.tree.Start.{Start}
@@ -25,6 +25,14 @@ is_in (x ∷ xs) k = x == k || is_in xs k
 abbrev pub all : List Texts → Texts
 all [] = []
 all (t ∷ ts) = t ++ all ts
+
+-- the same items, in whatever order
+abbrev pub HasSame : List ℕ → List ℕ → Type 0
+HasSame xs ys = (k : ℕ) → is_in xs k ≡ is_in ys k
+
+-- one more item
+abbrev pub HasOneMore : List ℕ → List ℕ → ℕ → Type 0
+HasOneMore more xs x = (k : ℕ) → is_in more k ≡ is_in xs k || x == k
 
 -- the strings in a start that begin at some items, each once, in the order of their items
 abbrev pub texts_layer : List ℕ → Start-F Texts → Texts

@@ -11,3 +11,6 @@ mod strings;
 
 pub use items::{judge_starts, read_starts};
 pub use strings::add_brick_strings;
+
+#[cfg(test)]
+mod tests;

@@ -1,14 +1,16 @@
 //! The strings of starts that are strings of the module.
 
-ghost use Rattle.std.specs.Prelude.{◌≡◌, ◌++◌, map, None, [], OnOk};
+ghost use Rattle.std.specs.Prelude.{◌≡◌, ◌++◌, map, None, [], IfOk, OnOk};
 ghost use Rattle.rt_modes.specs.declared.mode.Mode.{out-Mode};
 ghost use Rattle.rt_starts.specs.Starts as starts;
 ghost use Rattle.rt_starts.specs.Starts.{written};
 ghost use Rattle.rt_starts.specs.Strings as spec;
+ghost use Rattle.rt_starts.specs.Strings.{HasSame, HasOneMore};
 ghost use Rattle.rt_strings.specs.Strings.{text_of};
 
 use crate::items::{behind, first};
 use crate::parts::{Wanted, next_fields, want};
+use indexmap::IndexSet;
 use rt_bricks::{DataItem, DataLine, Start};
 use rt_headings::{Given, Part};
 use rt_modes::{Field, Mode, ModeTable};
@@ -75,21 +77,40 @@ fn used_in_fields(
     Ok(())
 }
 
-fn is_in(items: &[u16], item: u16) -> bool
-    ensures { result ≡ spec.is_in items.now item }
+/// These items as a set.
+fn to_set(alloc: Global, items: &[u16]) -> Result<IndexSet<u16>, Memory>
+    ensures { IfOk result (λ s. HasSame s.keys items.now) }
 {
-    for one in items {
-        if *one == item {
-            return true;
-        }
+    let mut set = IndexSet::new(alloc);
+    for item in items {
+        insert(&mut set, *item)?;
     }
-    false
+    Ok(set)
+}
+
+fn insert(set: &mut IndexSet<u16>, item: u16) -> Result<(), Memory>
+    ensures { OnOk result (HasOneMore set.new.keys set.old.keys item) }
+{
+    match set.insert(item) {
+        Ok(_) => Ok(()),
+        Err(_) => Err(Memory),
+    }
+}
+
+fn is_in(items: &IndexSet<u16>, item: u16) -> bool
+    ensures { result ≡ spec.is_in items.now.keys item }
+{
+    items.contains(&item)
 }
 
 /// Adds the strings in a start that begin at some items.
 #[cycle(texts)]
-fn add_texts<'a>(found: &mut List<Text<'a>>, items: &[u16], start: &'a Start) -> Result<(), Memory>
-    ensures { OnOk result (map text_of found.new ≡ map text_of found.old ++ spec.texts items.now start.now) }
+fn add_texts<'a>(
+    found: &mut List<Text<'a>>,
+    items: &IndexSet<u16>,
+    start: &'a Start,
+) -> Result<(), Memory>
+    ensures { OnOk result (map text_of found.new ≡ map text_of found.old ++ spec.texts items.now.keys start.now) }
 {
     match start {
         Start::Text(bytes, at) => {
@@ -110,10 +131,10 @@ fn add_texts<'a>(found: &mut List<Text<'a>>, items: &[u16], start: &'a Start) ->
 #[cycle(texts)]
 fn add_all_texts<'a>(
     found: &mut List<Text<'a>>,
-    items: &[u16],
+    items: &IndexSet<u16>,
     parts: &'a [Start],
 ) -> Result<(), Memory>
-    ensures { OnOk result (map text_of found.new ≡ map text_of found.old ++ spec.all (map (spec.texts items.now) parts.now)) }
+    ensures { OnOk result (map text_of found.new ≡ map text_of found.old ++ spec.all (map (spec.texts items.now.keys) parts.now)) }
 {
     for part in parts {
         add_texts(found, items, part)?;
@@ -138,7 +159,8 @@ fn add_start_texts<'a>(
             Given::Mode(mode) => {
                 let mut used = List::new(alloc, 0)?;
                 add_used(&mut used, modes, start, mode)?;
-                add_texts(found, used.as_slice(), start)
+                let items = to_set(alloc, used.as_slice())?;
+                add_texts(found, &items, start)
             }
         },
     }
