@@ -1,0 +1,6 @@
+mod Walking
+mod Alike
+mod Joined
+mod Finished
+mod Rising
+mod Reading
