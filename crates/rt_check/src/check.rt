@@ -1,0 +1,41 @@
+//! A module, checked.
+
+ghost use Rattle.std.specs.Prelude.{IfOk, IfErr};
+ghost use Rattle.rt_operands.specs.declared.fault.CheckFault.{CheckFault};
+ghost use Rattle.rt_operands.specs.Outcomes.{IsAnswered, UnlessMemory};
+ghost use Rattle.rt_tree.specs.Within.{Within};
+ghost use Rattle.rt_typed.specs.Modules.{Faults, IsTyped, Led, Stands, tree};
+ghost use Rattle.rt_whole.specs.Whole.{Refuses};
+ghost use Rattle.rt_check.specs.Texts.{IsDerived};
+
+use rt_bricks::Module;
+use rt_operands::CheckFault;
+use rt_tree::TypedModule;
+use rt_whole::read_module;
+use std::alloc::Global;
+
+/// The typed module of a module that the grammar derives.
+///
+/// # Errors
+///
+/// The fault of the least item, and of those of that item the one of least number, of all that stand in the module; or want of
+/// memory.
+pub fn check_module(alloc: Global, source: &Module) -> Result<TypedModule, CheckFault>
+    // What is answered is the typed tree, and no fault stands.
+    ensures tree { IsDerived source.now → IfOk result (IsTyped source.now) }
+    // Its procedures stay within what the code of a procedure may take.
+    ensures within { IsDerived source.now → IfOk result Within }
+    // Where no fault stands it is answered, unless memory runs out.
+    ensures only { (us : Faults) → IsDerived source.now → Led source.now.declarations us → ((g : CheckFault) → Stands source.now.declarations us g → ⊥) → IsAnswered (tree source.now us) result }
+    // A fault stands, and counts of all that stand.
+    ensures fault { IsDerived source.now → IfErr result (λ g. UnlessMemory g (Refuses source.now.declarations g)) }
+{
+    match read_module(alloc, source) {
+        Ok(parts) => match TypedModule::new(parts) {
+            Some(typed) => Ok(typed),
+            // (Not met: where no fault stands every node fits.)
+            None => Err(CheckFault::Memory),
+        },
+        Err(fault) => Err(fault),
+    }
+}

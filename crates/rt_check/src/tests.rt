@@ -1,0 +1,260 @@
+use super::*;
+use rt_bricks::parse_module;
+use rt_items::items;
+use rt_operands::CheckFault;
+use rt_pieces::Item;
+use std::alloc::Global;
+use std::test::Fail;
+
+// The number of bricks and strings of the typed module, or the fault with its line.
+fn checked(alloc: Global, text: &[u8]) -> Result<String, Fail> {
+    if text.len() > 4194304 {
+        return Ok(format!(in alloc; "too long")?);
+    }
+    match items(alloc, text) {
+        Ok(all) => judged(alloc, all.as_slice()),
+        Err(_) => Ok(format!(in alloc; "no items")?),
+    }
+}
+
+fn judged(alloc: Global, all: &[Item]) -> Result<String, Fail> {
+    match parse_module(alloc, all) {
+        Ok(found) => match check_module(alloc, &found) {
+            Ok(typed) => {
+                let (bricks, strings) = (typed.bricks().len(), typed.strings().len());
+                Ok(format!(in alloc; "{bricks} {strings}")?)
+            }
+            Err(fault) => told(alloc, fault),
+        },
+        Err(_) => Ok(format!(in alloc; "no module")?),
+    }
+}
+
+fn told(alloc: Global, fault: CheckFault) -> Result<String, Fail> {
+    let number = fault.number();
+    let line = match fault.at() {
+        Some(at) => at.line,
+        None => 0,
+    };
+    match fault {
+        CheckFault::LeftOut { form, .. } => Ok(format!(in alloc;
+            "{number} LINE {line} FORM {form}"
+        )?),
+        _ => Ok(format!(in alloc; "{number} LINE {line}")?),
+    }
+}
+
+const LIBRARY: &[u8] = b"TITLE LIBRARY;
+SVC DATA RRSIO; PROC() BYTE IN; PROC(BYTE) OUT; ENDDATA;
+ENT PROC TWRT(REF ARRAY BYTE T);
+FOR I := 1 TO LENGTH T DO OUT(T(I)) REP ENDPROC;
+ENT PROC NLS(INT N); TO N DO OUT(10) REP ENDPROC;
+ENT PROC SPS(INT N); TO N DO OUT(32) REP ENDPROC;
+ENT PROC HWRT(INT N); INT D;
+FOR I := 1 TO 4 DO D := N SRL (16 - 4 * I) LAND 15;
+IF D < 10 THEN OUT(BYTE(D + 48)) ELSE OUT(BYTE(D + 55)) END REP ENDPROC;
+PROC DIG(INT D, F) INT;
+IF F + D # 0 THEN OUT(BYTE(D + 48)); RETURN 1 END; RETURN 0 ENDPROC;
+ENT PROC IWRT(INT N); INT M := N, F;
+IF N < 0 THEN OUT('-') ELSE M := -N END;
+F := DIG(-(M :/ 10000), 0);
+F := DIG(-(M :/ 1000 MOD 10), F);
+F := DIG(-(M :/ 100 MOD 10), F);
+F := DIG(-(M :/ 10 MOD 10), F);
+DIG(-(M MOD 10), 1) ENDPROC;
+ENT PROC IREAD() INT; INT N, S; BYTE B; B := IN();
+WHILE B = 32 OR B = 10 OR B = 13 DO B := IN() REP;
+IF B = '-' THEN S := 1; B := IN() END;
+WHILE B >= '0' AND B <= '9' DO N := 10 * N + (B - '0'); B := IN() REP;
+IF S = 1 THEN RETURN -N END; RETURN N ENDPROC;
+";
+
+const PLANT: &[u8] = b"TITLE PLANT; LET NL=10; LET FULL=1; LET KEY=1;
+SVC PROC(INT) DELAY, WAIT, SIGNAL, SECURE, RELEASE;
+SVC PROC() INT CLOCK;
+SVC DATA RRSIO; PROC() BYTE IN; PROC(BYTE) OUT; ENDDATA;
+EXT PROC(REF ARRAY BYTE) TWRT; EXT PROC(INT) IWRT;
+EXT DATA LINEBUF; ARRAY(80) BYTE BUF; INT FILL; ENDDATA;
+ENT STACK S1 60; ENT STACK S2 60; ENT STACK S3 60;
+ENT PROC TICKER(); TO 4 DO DELAY(50); SIGNAL(FULL) REP ENDPROC;
+ENT PROC LOGGER();
+TO 4 DO WAIT(FULL); SECURE(KEY); TWRT(\"T=\"); IWRT(CLOCK()); OUT(' ');
+FOR I := 1 TO FILL DO OUT(BUF(I)) REP;
+OUT(NL); FILL := 0; RELEASE(KEY) REP ENDPROC;
+ENT PROC READER(); BYTE B; INT MORE := 1;
+WHILE MORE = 1 DO B := IN();
+IF B = 4 THEN MORE := 0
+ELSE SECURE(KEY); FILL := FILL + 1; BUF(FILL) := B; RELEASE(KEY) END REP ENDPROC;
+";
+
+// How many bricks and strings each typed module has.
+const TYPED: &[(&[u8], &str)] = &[
+    (b"TITLE T;", "0 0"),
+    (LIBRARY, "8 0"),
+    (
+        b"TITLE BUF; ENT DATA LINEBUF; ARRAY(80) BYTE BUF; INT FILL; ENDDATA;",
+        "1 0",
+    ),
+    (PLANT, "16 1"),
+    // inner names hide outer ones, also of another kind; labels are seen in their sequence and inside it
+    (
+        b"TITLE T; DATA D; INT X; ENDDATA; PROC P(INT X); L: BLOCK REF INT X := D2; VAL X := 1; L: GOTO L ENDBLOCK; X := 2; GOTO L ENDPROC; DATA E; INT D2; ENDDATA;",
+        "3 0",
+    ),
+    // a local hides a parameter
+    (b"TITLE T; PROC P(INT A); INT B; INT A; ENDPROC;", "1 0"),
+    // a local is seen behind its own start, so that this X is the item
+    (
+        b"TITLE T; DATA D; INT X; ENDDATA; PROC P(); INT X := X; X := X + 1 ENDPROC;",
+        "2 0",
+    ),
+    // a result by both ways of an IF, and behind an empty statement with a label
+    (
+        b"TITLE T; PROC F(INT A) INT; IF A = 1 THEN RETURN 1 ELSE RETURN 2 END ENDPROC;",
+        "1 0",
+    ),
+    (b"TITLE T; PROC P(); GOTO L; L: ENDPROC;", "1 0"),
+    // records that lead to one another, and data with starts, copies and strings
+    (
+        b"TITLE T; MODE A (REF B X), B (INT Y, REF A Z);",
+        "no module",
+    ),
+    (
+        b"TITLE T; MODE A (REF B X); MODE B (INT Y, REF A Z); DATA D; A P := (Q); B Q := (1, P); ARRAY(3) INT V := (1, 2(2)); ARRAY(2) BYTE S := \"ab\"; REF ARRAY BYTE R := \"c\"; ENDDATA;",
+        "1 1",
+    ),
+];
+
+#[test]
+fn typed_modules(rt: HostRuntime) -> Result<(), Fail> {
+    let alloc = rt.alloc();
+    for (text, want) in TYPED {
+        let got = checked(alloc, text)?;
+        assert_eq!(rt; got.as_str(), *want);
+    }
+    Ok(())
+}
+
+// The faults of expressions and of modes, each with its line.
+const EXPRESSIONS: &[(&[u8], &str)] = &[
+    (
+        b"TITLE T;\nPROC P(); INT X;\nX := TRUE ENDPROC;",
+        "20 LINE 3",
+    ),
+    (
+        b"TITLE T;\nMODE R (INT A);\nDATA D; R X; ENDDATA;\nPROC P();\nX.B := 1 ENDPROC;",
+        "20 LINE 5",
+    ),
+    (b"TITLE T;\nDATA D;\nQ X; ENDDATA;", "20 LINE 3"),
+    (
+        b"TITLE T;\nPROC P(); BYTE B;\nB := 256 ENDPROC;",
+        "21 LINE 3",
+    ),
+    (b"TITLE T; PROC P();\nRETURN(1) ENDPROC;", "21 LINE 2"),
+    (
+        b"TITLE T; PROC P(); FOR I := 1 TO 2 DO\nI := 1 REP ENDPROC;",
+        "22 LINE 2",
+    ),
+    (
+        b"TITLE T; PROC Q(INT A); ENDPROC;\nPROC P();\nQ(1, 2) ENDPROC;",
+        "23 LINE 3",
+    ),
+    (
+        b"TITLE T; PROC P(); INT X;\nREF INT Q := X; ENDPROC;",
+        "24 LINE 2",
+    ),
+    (
+        b"TITLE T; SVC DATA RRSIO; PROC() BYTE IN; PROC(BYTE) OUT; ENDDATA;\nDATA D;\nREF PROC() BYTE R := IN; ENDDATA;",
+        "24 LINE 3",
+    ),
+    (b"TITLE T;\nDATA D;\nLABEL L; ENDDATA;", "25 LINE 3 FORM 1"),
+    (
+        b"TITLE T; SVC DATA RRERR; LABEL ERL; INT ERN; PROC(INT) ERP; ENDDATA;\nPROC P(); L:\nERL := L ENDPROC;",
+        "25 LINE 3 FORM 2",
+    ),
+    (
+        b"TITLE T; SVC DATA RRERR; LABEL ERL; INT N; ENDDATA;\nPROC P();\nRETURN(ERL) ENDPROC;",
+        "25 LINE 3 FORM 2",
+    ),
+    (
+        b"TITLE T; MODE R (INT A); PROC P();\nPROC(R) Q; ENDPROC;",
+        "25 LINE 2 FORM 3",
+    ),
+    (
+        b"TITLE T; DATA D;\nARRAY(2) ARRAY(2) INT A; ENDDATA;",
+        "25 LINE 2 FORM 4",
+    ),
+];
+
+#[test]
+fn faults_of_expressions(rt: HostRuntime) -> Result<(), Fail> {
+    let alloc = rt.alloc();
+    for (text, want) in EXPRESSIONS {
+        let got = checked(alloc, text)?;
+        assert_eq!(rt; got.as_str(), *want);
+    }
+    Ok(())
+}
+
+// The faults of declarations and of statements, and of several the one that counts.
+const DECLARATIONS: &[(&[u8], &str)] = &[
+    (b"TITLE T; DATA D; INT X;\nINT Y, X; ENDDATA;", "26 LINE 2"),
+    (b"TITLE T; PROC P(); INT A;\nINT A; ENDPROC;", "26 LINE 2"),
+    (b"TITLE T; PROC P(); L: ;\nL: ENDPROC;", "26 LINE 2"),
+    (b"TITLE T; MODE R (INT A,\nA);", "26 LINE 2"),
+    (
+        b"TITLE T; MODE A (REF A X);\nMODE B (A X, C Y);\nMODE C (ARRAY(2) D Z);\nMODE D (INT N, B W);",
+        "26 LINE 2",
+    ),
+    (
+        b"TITLE T; DATA D;\nARRAY(8191) INT A, B,\nC,\nE; ENDDATA;",
+        "27 LINE 4",
+    ),
+    (
+        b"TITLE T; DATA D; ARRAY(2) INT\nA := (1, 2, 3); ENDDATA;",
+        "27 LINE 2",
+    ),
+    (b"TITLE T; DATA D; REF INT\nR; ENDDATA;", "27 LINE 2"),
+    (b"TITLE T; PROC P(); REF INT\nR; ENDPROC;", "27 LINE 2"),
+    (b"TITLE T; DATA D; ARRAY(0) INT\nA; ENDDATA;", "27 LINE 2"),
+    (b"TITLE T; STACK\nS 28673;", "27 LINE 2"),
+    (b"TITLE T; PROC P();\nGOTO L ENDPROC;", "28 LINE 2"),
+    (
+        b"TITLE T; PROC P(); BLOCK L: ENDBLOCK;\nGOTO L ENDPROC;",
+        "28 LINE 2",
+    ),
+    (b"TITLE T; PROC F() INT;\nENDPROC;", "29 LINE 2"),
+    (
+        b"TITLE T; PROC F(INT A) INT; IF A = 1 THEN RETURN 1 END\nENDPROC;",
+        "29 LINE 2",
+    ),
+    (b"TITLE T; PROC F() INT;\nRETURN ENDPROC;", "29 LINE 2"),
+    // of several the one at the least item, in whichever order they are met
+    (
+        b"TITLE T; DATA D; INT\nX := Q; ENDDATA; DATA E;\nLABEL L; ENDDATA;",
+        "20 LINE 2",
+    ),
+    (
+        b"TITLE T; PROC P();\nX := 1 ENDPROC; MODE R (R A);\nSTACK S 0;",
+        "20 LINE 2",
+    ),
+    (
+        b"TITLE T; MODE\nR (R A); PROC P();\nX := 1 ENDPROC; STACK S 0;",
+        "26 LINE 2",
+    ),
+    // what leads to an unfit record has its fault
+    (
+        b"TITLE T; PROC P();\nREF A X := Y; ENDPROC; MODE A (REF B X); MODE\nB (B Y);",
+        "26 LINE 3",
+    ),
+];
+
+#[test]
+fn faults_of_declarations(rt: HostRuntime) -> Result<(), Fail> {
+    let alloc = rt.alloc();
+    for (text, want) in DECLARATIONS {
+        let got = checked(alloc, text)?;
+        assert_eq!(rt; got.as_str(), *want);
+    }
+    Ok(())
+}
