@@ -1,0 +1,12 @@
+pub mod Levels
+pub mod Slots
+pub mod Trees
+pub mod Work
+pub mod Grounds
+pub mod Tasks
+pub mod Runs
+pub mod Systems
+pub mod Starting
+pub mod Named
+pub mod Modules
+pub mod Laws

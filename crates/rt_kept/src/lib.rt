@@ -1,0 +1,10 @@
+//! A typed store stays typed: the law that stands above the source meaning (BS 5904). There is no code here but functions that
+//! do nothing, whose contracts are the laws.
+#![tactic(auto)]
+
+mod laws;
+
+pub use laws::{
+    modules_fit, reads_and_writes_fit, runs_keep_types, starts_fit, steps_keep_types,
+    stores_stay_typed, systems_fit, values_pass, work_fits,
+};
