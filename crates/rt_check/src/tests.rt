@@ -98,7 +98,7 @@ const TYPED: &[(&[u8], &str)] = &[
     (PLANT, "16 1"),
     // inner names hide outer ones, also of another kind; labels are seen in their sequence and inside it
     (
-        b"TITLE T; DATA D; INT X; ENDDATA; PROC P(INT X); L: BLOCK REF INT X := D2; VAL X := 1; L: GOTO L ENDBLOCK; X := 2; GOTO L ENDPROC; DATA E; INT D2; ENDDATA;",
+        b"TITLE T; DATA D; INT X; ENDDATA; PROC P(INT X); L: BLOCK REF INT X := SHARED; VAL X := 1; L: GOTO L ENDBLOCK; X := 2; GOTO L ENDPROC; DATA E; INT SHARED; ENDDATA;",
         "3 0",
     ),
     // a local hides a parameter
