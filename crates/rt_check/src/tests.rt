@@ -151,8 +151,23 @@ const EXPRESSIONS: &[(&[u8], &str)] = &[
         "21 LINE 3",
     ),
     (b"TITLE T; PROC P();\nRETURN(1) ENDPROC;", "21 LINE 2"),
+    // a link on what has none, and a chain alone that is no call
+    (
+        b"TITLE T; PROC P(); INT X;\nX := X\n.A ENDPROC;",
+        "21 LINE 3",
+    ),
+    (b"TITLE T; PROC P(); INT X;\nX ENDPROC;", "21 LINE 2"),
     (
         b"TITLE T; PROC P(); FOR I := 1 TO 2 DO\nI := 1 REP ENDPROC;",
+        "22 LINE 2",
+    ),
+    (b"TITLE T; PROC P();\nP := 1 ENDPROC;", "22 LINE 2"),
+    (
+        b"TITLE T; MODE R (INT A); DATA D; R X; ENDDATA; PROC P();\nX := 1 ENDPROC;",
+        "22 LINE 2",
+    ),
+    (
+        b"TITLE T; DATA D; ARRAY(2) INT X; ENDDATA; PROC P();\nX := 1 ENDPROC;",
         "22 LINE 2",
     ),
     (
@@ -160,7 +175,15 @@ const EXPRESSIONS: &[(&[u8], &str)] = &[
         "23 LINE 3",
     ),
     (
+        b"TITLE T; PROC Q(INT A); ENDPROC;\nPROC P();\nQ() ENDPROC;",
+        "23 LINE 3",
+    ),
+    (
         b"TITLE T; PROC P(); INT X;\nREF INT Q := X; ENDPROC;",
+        "24 LINE 2",
+    ),
+    (
+        b"TITLE T; PROC P(INT X);\nREF INT Q := X; ENDPROC;",
         "24 LINE 2",
     ),
     (
@@ -181,7 +204,27 @@ const EXPRESSIONS: &[(&[u8], &str)] = &[
         "25 LINE 2 FORM 3",
     ),
     (
+        b"TITLE T; PROC P();\nARRAY(2) INT X; ENDPROC;",
+        "25 LINE 2 FORM 3",
+    ),
+    (
+        b"TITLE T; PROC P(\nARRAY(2) INT X); ENDPROC;",
+        "25 LINE 2 FORM 3",
+    ),
+    (
+        b"TITLE T; MODE R (INT A); PROC P(\nR X); ENDPROC;",
+        "25 LINE 2 FORM 3",
+    ),
+    (
         b"TITLE T; DATA D;\nARRAY(2) ARRAY(2) INT A; ENDDATA;",
+        "25 LINE 2 FORM 4",
+    ),
+    (
+        b"TITLE T; EXT DATA D; REF ARRAY\nARRAY(2) INT A; ENDDATA;",
+        "25 LINE 2 FORM 4",
+    ),
+    (
+        b"TITLE T; EXT DATA D; PROC(\nARRAY(2) INT) A; ENDDATA;",
         "25 LINE 2 FORM 4",
     ),
 ];
@@ -223,6 +266,10 @@ const DECLARATIONS: &[(&[u8], &str)] = &[
         b"TITLE T; PROC P(); BLOCK L: ENDBLOCK;\nGOTO L ENDPROC;",
         "28 LINE 2",
     ),
+    (
+        b"TITLE T; PROC P(INT I);\nSWITCH I OF L, M; L: ENDPROC;",
+        "28 LINE 2",
+    ),
     (b"TITLE T; PROC F() INT;\nENDPROC;", "29 LINE 2"),
     (
         b"TITLE T; PROC F(INT A) INT; IF A = 1 THEN RETURN 1 END\nENDPROC;",
@@ -255,6 +302,36 @@ fn faults_of_declarations(rt: HostRuntime) -> Result<(), Fail> {
     for (text, want) in DECLARATIONS {
         let got = checked(alloc, text)?;
         assert_eq!(rt; got.as_str(), *want);
+    }
+    Ok(())
+}
+
+// A module of two hundred items and two hundred locals, and then the line.
+fn of_two_hundred(alloc: Global, line: &str) -> Result<String, Fail> {
+    let mut items = format!(in alloc; "TITLE T; DATA D; INT X0")?;
+    let mut locals = format!(in alloc; "PROC P(); INT Y0")?;
+    let mut uses = format!(in alloc; "Y0 := X0")?;
+    for k in 1..200u32 {
+        items = format!(in alloc; "{items}, X{k}")?;
+        locals = format!(in alloc; "{locals}, Y{k}")?;
+        uses = format!(in alloc; "{uses};\nY{k} := X{k}")?;
+    }
+    Ok(format!(in alloc; "{items}; ENDDATA; {locals}; {uses}; {line} ENDPROC;")?)
+}
+
+#[test]
+fn two_hundred_names(rt: HostRuntime) -> Result<(), Fail> {
+    let alloc = rt.alloc();
+    let cases = [
+        ("", "2 0"),
+        ("\nX199 := Y200", "20 LINE 201"),
+        ("BLOCK INT X199; X199 := Y199 ENDBLOCK", "2 0"),
+        ("\nY199 := D", "21 LINE 201"),
+    ];
+    for (line, want) in cases {
+        let text = of_two_hundred(alloc, line)?;
+        let got = checked(alloc, text.as_bytes())?;
+        assert_eq!(rt; got.as_str(), want);
     }
     Ok(())
 }
