@@ -1,0 +1,7 @@
+pub mod Short
+pub mod Nodes
+pub mod Words
+pub mod Operands
+pub mod Fitting
+pub mod Laws
+pub mod Modes
