@@ -1,5 +1,5 @@
 -- What fits names only what is seen, by the rules by which it fits.
-use Rattle.std.proofs.Common.{◌≡◌, ◌&&◌, true, List, [], ◌∷◌, Some, map, sym, ◌∙◌, subst}
+use Rattle.std.proofs.Common.{◌≡◌, true, List, [], ◌∷◌, map, sym, ◌∙◌, subst}
 use Rattle.rt_grammar.specs.declared.at.At.{At}
 use Rattle.rt_expression.specs.declared.tree.Chain.{Chain, out-Chain}
 use Rattle.rt_expression.specs.declared.tree.Expr.{Expr}
@@ -8,7 +8,7 @@ use Rattle.rt_modes.specs.declared.mode.Mode.{Mode}
 use Rattle.rt_nodes.specs.declared.value.Place.{Place}
 use Rattle.rt_nodes.specs.declared.value.Value.{Value}
 use Rattle.rt_nodes.specs.Scopes.{Scope}
-use Rattle.rt_nodes.specs.Typing.{placed, valued, terms_of}
+use Rattle.rt_nodes.specs.Typing.{valued, terms_of}
 use Rattle.rt_operands.specs.declared.operand.Standing.TheVariants as standing
 use Rattle.rt_operands.specs.declared.scope.Scope.{Scope as Names}
 use Rattle.rt_operands.specs.Modes.{Want}
@@ -20,7 +20,7 @@ use Rattle.rt_accepted.specs.Texts.{all}
 use Rattle.rt_derived.specs.Numbers.{words_in_expr, words_in_link, words_in_chain}
 use Rattle.rt_derived.proofs.Truths.{left_of, right_of}
 use Rattle.rt_kept.specs.Trees.{Started}
-use Rattle.rt_kept.specs.Named.{any_name, TermNamed, TermsNamed}
+use Rattle.rt_kept.specs.Named.{any_name, TermsNamed}
 use Rattle.rt_seen.specs.Seen.{LocalsSeen}
 use Rattle.rt_seen.specs.Short.{AllShort}
 use Rattle.rt_seen.proofs.Nodes.{PlaceSeen, ValueSeen, length_seen, monadic_seen, dyadic_seen, element_seen, field_seen}
@@ -80,5 +80,5 @@ module _ (s : Names) (c : Scope) (k : Started) (short : AllShort c) (locals : Lo
   assigns_val_seen {at = at} (f.assigns_val {f = g} {p = p} {m = m} {x = x} i t e) w =
       assigned_seen c k at (place p m standing.Shared) x (subst (TargetSeen c k) t (target_seen c k g.is (chain_seen i w))) e
 
-  pub call_is_seen_alone : {h : Chain} {x : Value} → CallIs s h x → words_in_chain h ≡ true → ValueSeen k c x
-  call_is_seen_alone (f.call_is {f = g} {x = x} i e) w = called_seen c k g.at g.is x (chain_seen i w) e
+  pub alone_seen : {h : Chain} {x : Value} → CallIs s h x → words_in_chain h ≡ true → ValueSeen k c x
+  alone_seen (f.call_is {f = g} {x = x} i e) w = called_seen c k g.at g.is x (chain_seen i w) e

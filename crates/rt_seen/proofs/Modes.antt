@@ -5,7 +5,7 @@ use Rattle.std.specs.List.{list_all}
 use Rattle.std.specs.Str.{bytes_eq}
 use Rattle.std.proofs.lemmas.Bool.Decides.{nat_tests}
 use Rattle.rt_modes.specs.declared.mode.Field.{Field}
-use Rattle.rt_modes.specs.declared.mode.Mode.{Mode, out-Mode, roll-Mode, map-Mode, the_lemmas}
+use Rattle.rt_modes.specs.declared.mode.Mode.{Mode, out-Mode, roll-Mode, map-Mode}
 use Rattle.rt_modes.specs.declared.mode.Mode.TheFolds.{ind-Mode, fold_out-Mode}
 use Rattle.rt_modes.specs.declared.mode.Mode.TheOpen.{Mode-F}
 use Rattle.rt_modes.specs.declared.mode.RecordDef.{RecordDef}
@@ -21,16 +21,14 @@ use Rattle.rt_accepted.specs.Texts.{all}
 use Rattle.rt_derived.specs.Numbers.{is_word}
 use Rattle.rt_derived.proofs.Truths.{both, left_of, right_of}
 use Rattle.rt_within.specs.Modes.{sort_stands, face_stands, ModesStand}
-use Rattle.rt_seen.specs.Short.{short, IsShort, AllShort}
+use Rattle.rt_seen.specs.Short.{short, IsShort}
 use Rattle.rt_seen.specs.Laws.{ModesAreShort}
 use Rattle.rt_seen.proofs.Short.{short_at}
+use Rattle.rt_seen.proofs.Small.{some_is, out_roll}
 
 either_way : {P : Type 0} (a b : Bool) → (a ≡ true → P) → (b ≡ true → P) → a || b ≡ true → P
 either_way true b f g h = f refl
 either_way false b f g h = g h
-
-some_is : {A : Type 0} (a b : A) → Some a ≡ Some b → a ≡ b
-some_is a b e = cc
 
 label_short : (m : Mode) (l : Mode-F Mode) → out-Mode m ≡ l → is_label_layer l ≡ true → IsShort m
 label_short m Mode-F.Label o h = short_at m Mode-F.Label o
@@ -102,9 +100,6 @@ module _ (n : ℕ) where
       let g = right_of many (passed && inner) (right_of (nat_lt 0 levels) (many && (passed && inner)) (at_place m (Mode-F.Proc ms (Some r.0)) p levels refs o h)) in
       short_at m (Mode-F.Proc ms (Some r.0)) o
       ∙ both (all (map short ms)) (short r.0) (parameters_short ps (levels - 1) (left_of passed inner g)) (r.1 standing.Passed (levels - 1) 8 (right_of passed inner g))
-
-  out_roll : (l : Mode-F Mode) → out-Mode (roll-Mode l) ≡ l
-  out_roll l = search the_lemmas
 
   stands_short : (m : Mode) → Known m
   stands_short = ind-Mode Known (λ x y is. opened (roll-Mode x) y (out_roll x ∙ sym is))

@@ -1,12 +1,11 @@
 -- The nodes of a tree whose parts name only what is seen name only what is seen, whether or not they fit.
-use Rattle.std.proofs.Common.{◌≡◌, ℕ, ◌<◌, Bool, true, false, List, [], ◌∷◌, Option, Some, None, map, option_map, if◌then◌else◌, ◌||◌, refl, sym, ap, subst}
+use Rattle.std.proofs.Common.{◌≡◌, ℕ, ◌<◌, Bool, true, false, List, Option, Some, None, map, option_map, if◌then◌else◌, ◌||◌, refl, sym, subst}
 use Rattle.std.specs.Prelude.{nat_lt, slice_get}
 use Rattle.rt_modes.specs.declared.mode.Mode.{Mode, out-Mode}
 use Rattle.rt_modes.specs.declared.mode.Mode.TheOpen.{Mode-F}
 use Rattle.rt_modes.specs.declared.mode.Mode.TheVariants as mode
 use Rattle.rt_modes.specs.declared.mode.Field.{Field}
 use Rattle.rt_modes.specs.declared.mode.RecordDef.{RecordDef}
-use Rattle.rt_nodes.specs.declared.brick.Kind.{Kind}
 use Rattle.rt_nodes.specs.declared.brick.Local.{Local}
 use Rattle.rt_nodes.specs.declared.brick.Local.TheVariants as local
 use Rattle.rt_nodes.specs.declared.operators.Op1.{Op1}
@@ -26,7 +25,7 @@ use Rattle.rt_nodes.specs.declared.value.Value as value_lemmas
 use Rattle.rt_nodes.specs.declared.value.Value.TheVariants as values
 use Rattle.rt_nodes.specs.Scopes.{Scope, Face, with, only, is_svc, items_of, field_at, field_mode, svc_mode, proc_mode}
 use Rattle.rt_nodes.specs.Tree.{Term, Path, Terms}
-use Rattle.rt_nodes.specs.Typing.{Found, Variable, Loop, Shared, Private, Row, Spot, OnLocal, OnPath, OnRow, Called, Placed, Valued, one_callee, one_place, one_value, called, placed, valued, local_found, kept, item_found, field_by, field_found, field_path, field_in, element_by, element_found, element_path, element_in, led_by, led, led_spot, led_tree, is_value, is_byte, is_int, is_frac, both, read_mode, mode_at, read_tree, reference_by, reference_mode, reference_path, reference_tree, length_by, length_mode, length_path, length_tree, signed_mode, whole_mode, alike_mode, shift_mode, monadic_mode, dyadic_mode, dyadic_tree, all_suit, signature_by, call_mode, terms_of}
+use Rattle.rt_nodes.specs.Typing.{Found, Variable, Loop, Shared, Private, Row, Spot, OnLocal, OnPath, OnRow, Called, Placed, Valued, one_callee, one_place, one_value, called, placed, valued, local_found, kept, field_by, field_found, field_path, field_in, element_by, element_found, element_path, element_in, led_by, led, led_spot, led_tree, is_value, is_byte, is_int, is_frac, both, read_mode, mode_at, read_tree, reference_by, reference_mode, reference_path, reference_tree, length_by, length_mode, length_path, length_tree, signed_mode, whole_mode, monadic_mode, dyadic_mode, dyadic_tree, all_suit, signature_by, call_mode, terms_of}
 use Rattle.rt_kept.specs.Trees.{Started}
 use Rattle.rt_kept.specs.Named.{any_name, TermNamed, PathNamed, TermsNamed}
 use Rattle.rt_seen.specs.Short.{IsShort, AllShort}

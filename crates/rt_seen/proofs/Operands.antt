@@ -1,7 +1,7 @@
 -- What an expression is by itself names only what is seen, and so does what it becomes where a mode is wanted.
 use Rattle.std.proofs.Common.{◌≡◌, ℕ, ◌<◌, ◌==◌, Bool, true, false, List, Option, Some, None, Ok, Err, if◌then◌else◌, map, refl, sym, ap, ◌∙◌, subst}
 use Rattle.rt_grammar.specs.declared.at.At.{At}
-use Rattle.rt_modes.specs.declared.mode.Mode.{Mode, out-Mode, roll-Mode, map-Mode, the_lemmas}
+use Rattle.rt_modes.specs.declared.mode.Mode.{Mode, out-Mode, roll-Mode, map-Mode}
 use Rattle.rt_modes.specs.declared.mode.Mode.TheFolds.{ind-Mode, fold_out-Mode}
 use Rattle.rt_modes.specs.declared.mode.Mode.TheOpen.{Mode-F}
 use Rattle.rt_nodes.specs.declared.operators.Op1.TheVariants as one
@@ -20,9 +20,9 @@ use Rattle.rt_operands.specs.declared.operand.Standing.{Standing}
 use Rattle.rt_operands.specs.declared.operand.Standing.TheVariants as standing
 use Rattle.rt_operands.specs.declared.scope.Meaning.{Meaning}
 use Rattle.rt_operands.specs.declared.scope.Meaning.TheVariants as meaning
-use Rattle.rt_operands.specs.Modes.{Way, Want, basic, way, way_by, layer_becomes, becomes, basic_becomes, past, same, is_ref, is_row, is_proc, is_int, only_if, record_of, ref_of, through, array_at, array_by}
+use Rattle.rt_operands.specs.Modes.{Way, Want, basic, way, way_by, layer_becomes, becomes, basic_becomes, past, same, is_ref, is_row, is_int, only_if, record_of, ref_of, through, array_at, array_by}
 use Rattle.rt_operands.specs.Operands.{Is, number, text, brick, place, loop, result, computed, done, named, suits_by, refer, wants_reference}
-use Rattle.rt_operands.specs.Outcomes.{Outcome, or_fault}
+use Rattle.rt_operands.specs.Outcomes.{or_fault}
 use Rattle.rt_exprs.specs.Judging.{record_in, record_behind, shared_record, place_record, Reach, rows, calls, neither, reach, proc_reach, place_reach, result_reach, called, target_of, with_place, array_in, row_result, assigned_is, called_is, is_whole}
 use Rattle.rt_typing.proofs.Suiting.{or_some}
 use Rattle.rt_kept.specs.Trees.{Started}
@@ -30,15 +30,7 @@ use Rattle.rt_kept.specs.Named.{any_name, TermsNamed}
 use Rattle.rt_seen.specs.Seen.{LocalSeen}
 use Rattle.rt_seen.specs.Short.{AllShort}
 use Rattle.rt_seen.proofs.Nodes.{CalleeSeen, PlaceSeen, ValueSeen, number_seen, text_seen, proc_seen, read_seen, reference_seen, monadic_seen, call_seen, local_seen, item_seen, svc_seen, through_seen, brick_seen, callee_seen}
-
-some_is : (v x : Value) → Some v ≡ Some x → v ≡ x
-some_is v x e = cc
-
-ok_is : {A : Type 0} (a b : A) (o : Outcome A) → o ≡ Ok a → o ≡ Ok b → a ≡ b
-ok_is a b o e h = cc
-
-out_roll : (l : Mode-F Mode) → out-Mode (roll-Mode l) ≡ l
-out_roll l = search the_lemmas
+use Rattle.rt_seen.proofs.Small.{some_is, ok_is, out_roll}
 
 way_at : (m : Mode) (l : Mode-F Mode) → out-Mode m ≡ l → way m ≡ way_by (map-Mode Mode Way way l)
 unfolding way

@@ -1,5 +1,5 @@
 -- Which parts of an expression, a link, a chain and a condition hold its numbers.
-use Rattle.std.proofs.Common.{◌≡◌, ℕ, ◌&&◌, true, List, map, refl}
+use Rattle.std.proofs.Common.{◌≡◌, ℕ, ◌&&◌, Bool, List, map, refl, ◌∙◌}
 use Rattle.rt_grammar.specs.declared.at.At.{At}
 use Rattle.rt_expression.specs.declared.tree.Chain.{Chain, out-Chain}
 use Rattle.rt_expression.specs.declared.tree.Cond.{Cond, out-Cond}
@@ -13,7 +13,7 @@ use Rattle.rt_expression.specs.declared.tree.Op1.{Op1}
 use Rattle.rt_expression.specs.declared.tree.Op2.{Op2}
 use Rattle.rt_expression.specs.declared.tree.Rel.{Rel}
 use Rattle.rt_accepted.specs.Texts.{all}
-use Rattle.rt_derived.specs.Numbers.{is_word, words_in_expr, words_in_link, words_in_chain, words_in_cond}
+use Rattle.rt_derived.specs.Numbers.{is_word, expr_words, link_words, chain_words as by_links, words_in_expr, words_in_link, words_in_chain, words_in_cond}
 
 pub number_words : (e : Expr) (n : ℕ) (at : At) → out-Expr e ≡ Expr-F.Number n at → words_in_expr e ≡ is_word n
 number_words e n at o = rw (fold_out-Expr, o) refl
@@ -25,10 +25,10 @@ pub val_words : (e : Expr) (h : Chain) (at : At) → out-Expr e ≡ Expr-F.Val h
 val_words e h at o = rw (fold_out-Expr, o) refl
 
 pub monadic_words : (e a : Expr) (op : Op1) (at : At) → out-Expr e ≡ Expr-F.Monadic op a at → words_in_expr e ≡ words_in_expr a
-monadic_words e a op at o = rw (fold_out-Expr, o) refl
+monadic_words e a op at o = fold_out-Expr Bool Bool Bool expr_words link_words by_links e ∙ rw o refl
 
 pub dyadic_words : (e a b : Expr) (op : Op2) (at : At) → out-Expr e ≡ Expr-F.Dyadic op a b at → words_in_expr e ≡ words_in_expr a && words_in_expr b
-dyadic_words e a b op at o = rw (fold_out-Expr, o) refl
+dyadic_words e a b op at o = fold_out-Expr Bool Bool Bool expr_words link_words by_links e ∙ rw o refl
 
 pub apply_words : (l : Link) (es : List Expr) (at : At) → out-Link l ≡ Link-F.Apply es at → words_in_link l ≡ all (map words_in_expr es)
 apply_words l es at o = rw (fold_out-Link, o) refl

@@ -1,5 +1,5 @@
--- Values, places that are assigned, calls and conditions name only what is seen.
-use Rattle.std.proofs.Common.{◌≡◌, ℕ, ◌≤◌, true, List, [], ◌∷◌, Option, Some, None, map, arith, refl, sym, ◌∙◌}
+-- Places that are assigned, and conditions, name only what is seen.
+use Rattle.std.proofs.Common.{◌≡◌, true, List, [], ◌∷◌, Option, Some, None, map, arith, refl, sym, ◌∙◌}
 use Rattle.std.specs.List.{AllByRecursion}
 use Rattle.rt_grammar.specs.declared.at.At.{At}
 use Rattle.rt_expression.specs.declared.tree.Chain.{Chain}
@@ -15,11 +15,10 @@ use Rattle.rt_nodes.specs.declared.value.Place.{Place}
 use Rattle.rt_nodes.specs.declared.value.Value.{Value}
 use Rattle.rt_nodes.specs.Scopes.{Scope, with}
 use Rattle.rt_nodes.specs.Tree.{Cond, Is, Both, Either}
-use Rattle.rt_nodes.specs.Typing.{Found, Variable, Loop, Shared, Private, Row, Spot, OnLocal, OnPath, OnRow, assigned_mode, placed, valued}
+use Rattle.rt_nodes.specs.Typing.{Found, Row, Spot, OnLocal, OnPath, OnRow, assigned_mode, placed, valued}
 use Rattle.rt_operands.specs.declared.scope.Scope.{Scope as Names}
 use Rattle.rt_exprs.specs.Fitting as f
 use Rattle.rt_exprs.specs.Fitting.{Assigns, AssignsVal, TestIs, TestsAre}
-use Rattle.rt_exprs.specs.Judging.{made_rel}
 use Rattle.rt_tree.specs.Statements.{Tested, tested, joined_by}
 use Rattle.rt_typing.specs.Agreeing.{Agree}
 use Rattle.rt_typing.specs.Laws.{MayBeAssigned}
@@ -28,12 +27,13 @@ use Rattle.rt_accepted.specs.Texts.{all}
 use Rattle.rt_derived.specs.Numbers.{words_in_expr, words_in_chain, words_in_cond}
 use Rattle.rt_derived.proofs.Truths.{left_of, right_of}
 use Rattle.rt_kept.specs.Trees.{Started}
-use Rattle.rt_kept.specs.Named.{any_name, TermNamed, CondNamed}
+use Rattle.rt_kept.specs.Named.{any_name, CondNamed}
 use Rattle.rt_seen.specs.Seen.{LocalsSeen, SpotNamed}
 use Rattle.rt_seen.specs.Short.{AllShort}
 use Rattle.rt_seen.proofs.Fitting.{is_seen, fits_seen, assigns_seen, assigns_val_seen}
-use Rattle.rt_seen.proofs.Nodes.{RowAlone, SpotSeen, PlaceSeen}
+use Rattle.rt_seen.proofs.Nodes.{OnlyRow, RowAlone, SpotSeen, PlaceSeen}
 use Rattle.rt_seen.proofs.Operands.{suits_seen}
+use Rattle.rt_seen.proofs.Words.{or_words, and_words, compare_words}
 
 -- ---- places that are assigned
 
