@@ -116,7 +116,7 @@ module _ (t u : ModeTable) (gt : IsTable t) (gu : IsTable u) where
       (sym (run_word (tell.head u gu.names gu.apart (out-Mode m)) (tell.tail u gu.names gu.apart (out-Mode m) ++ a) (tell.head_run u gu.names gu.apart (out-Mode m) i) (tell.tail_apart u gu.names gu.apart (out-Mode m) a c))
       ∙ ap word_of (sym (tell.split u gu.names gu.apart m (out-Mode m) a refl) ∙ e))
 
-  inside_tells : (fs gs : List Field) (a b : List ℕ) → AllByRecursion (IsField t) fs → AllByRecursion (IsField u) gs → spelled t (fields_inside fs) ++ a ≡ spelled u (fields_inside gs) ++ b → FieldsAlike fs gs × (a ≡ b)
+  pub inside_tells : (fs gs : List Field) (a b : List ℕ) → AllByRecursion (IsField t) fs → AllByRecursion (IsField u) gs → spelled t (fields_inside fs) ++ a ≡ spelled u (fields_inside gs) ++ b → FieldsAlike fs gs × (a ≡ b)
   inside_tells [] [] a b hf hg e = (tt, behind 41 41 a b e)
   inside_tells [] (g ∷ gs) a b hf hg e =
       let lu : List ℕ = spelled u (mode_words g.mode) in

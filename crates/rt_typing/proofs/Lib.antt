@@ -8,9 +8,9 @@ pub mod Fitted
 pub mod Targets
 pub mod Tests
 mod Words
-mod Telling
+pub mod Telling
 pub mod Judged
 pub mod Passing
-mod Opening
-mod Defining
-mod Reaching
+pub mod Opening
+pub mod Defining
+pub mod Reaching

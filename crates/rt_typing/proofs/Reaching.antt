@@ -19,16 +19,16 @@ use Rattle.rt_typing.proofs.Defining.{FieldsAlike, DefinedAlike, AllAlike, where
 
 -- ---- what is in a list, and what words mention
 
-abbrev In : ℕ → List ℕ → Type 0
+abbrev pub In : ℕ → List ℕ → Type 0
 In k [] = ⊥
 In k (x ∷ xs) = (x ≡ k) ⊎ In k xs
 
-abbrev AllMentions : (ℕ → Type 0) → List TextWord → Type 0
+abbrev pub AllMentions : (ℕ → Type 0) → List TextWord → Type 0
 AllMentions P [] = Unit {0}
 AllMentions P (Says b ∷ ws) = AllMentions P ws
 AllMentions P (Mentions k ∷ ws) = P k × AllMentions P ws
 
-mentions_left : (P : ℕ → Type 0) (xs ys : List TextWord) → AllMentions P (xs ++ ys) → AllMentions P xs
+pub mentions_left : (P : ℕ → Type 0) (xs ys : List TextWord) → AllMentions P (xs ++ ys) → AllMentions P xs
 mentions_left P [] ys h = tt
 mentions_left P (Says b ∷ xs) ys h = mentions_left P xs ys h
 mentions_left P (Mentions k ∷ xs) ys h = (h.0, mentions_left P xs ys h.1)
@@ -108,7 +108,7 @@ module _ (t u : ModeTable) (gt : IsTable t) (gu : IsTable u) where
   more_alike [] (g ∷ gs) h = absurd h
   more_alike (f ∷ fs) [] h = absurd h
 
-  between_alike : (fs gs : List Field) → FieldsAlike t u gt gu fs gs → AlikeWords t u gt gu (between_commas (map field_words fs)) (between_commas (map field_words gs))
+  pub between_alike : (fs gs : List Field) → FieldsAlike t u gt gu fs gs → AlikeWords t u gt gu (between_commas (map field_words fs)) (between_commas (map field_words gs))
   between_alike [] [] h = tt
   between_alike (f ∷ fs) (g ∷ gs) h = alike_joined t u gt gu (field_words f) (field_words g) (after_commas (map field_words fs)) (after_commas (map field_words gs)) (field_alike f g h.0 h.1) (more_alike fs gs h.2)
   between_alike [] (g ∷ gs) h = absurd h
@@ -350,18 +350,17 @@ module _ (t u : ModeTable) (gt : IsTable t) (gu : IsTable u) where
           paired_spelled (mode_words m ++ where_words t (reached_by t (mode_words m))) (mode_words n ++ where_words u (reached_by u (mode_words n)))
           (paired_joined (mode_words m) (mode_words n) _ _ p (paired_where (reached_by t (mode_words m)) (reached_by u (mode_words n)) (paired_reached (mode_words m) (mode_words n) p)))
 
-  -- ---- two modes of one full mode
+  -- ---- two texts of one spelling
 
-  -- what their texts have in common
-  record Shared (m n : Mode) : Type 0 where
+  -- what words and the definitions behind them have in common
+  pub record Shared (ws : List TextWord) : Type 0 where
     ks : List ℕ
     js : List ℕ
     alike : AllAlike t u gt gu ks js
     rights : AllByRecursion (InRight t u gt gu) js
     lefts : AllByRecursion (InLeft t u gt gu) ks
     closed : AllMentions (λ k. In k ks) (joined (map (definition t) ks))
-    inside : AllMentions (λ k. In k ks) (mode_words m)
-    level : LevelAlike t u gt gu (out-Mode m) (out-Mode n)
+    pub inside : AllMentions (λ k. In k ks) ws
 
   below : (v : ModeTable) (ws : List TextWord) → AllByRecursion (λ k. (d : RecordDef) × (slice_get v.records k ≡ Some d)) (mentioned v ws)
   below v [] = tt
@@ -395,40 +394,35 @@ module _ (t u : ModeTable) (gt : IsTable t) (gu : IsTable u) where
   in_tables v ws =
       subst (AllByRecursion (λ k. (d : RecordDef) × (slice_get v.records k ≡ Some d))) (sym (all_closed v ws)) (all_new (λ k. (d : RecordDef) × (slice_get v.records k ≡ Some d)) [] _ tt (below v (ws ++ joined (map (definition v) (reached_by v ws)))))
 
-  shared : (m n : Mode) → MayStand t m → MayStand u n → Same t u m n → Shared m n
-  shared m n sm sn e =
-      let ks : List ℕ = reached_by t (mode_words m) in
-      let js : List ℕ = reached_by u (mode_words n) in
-      let z = known t u gt gu m n (spelled t (where_words t ks)) (spelled u (where_words u js)) sm sn (tell.where_closes t gt.names gt.apart ks) (tell.where_closes u gu.names gu.apart js)
-      (sym (tell.full_split t gt.names gt.apart m) ∙ e ∙ tell.full_split u gu.names gu.apart n) in
-      let lefts : AllByRecursion (InLeft t u gt gu) ks = in_tables t (mode_words m) in
-      let rights : AllByRecursion (InRight t u gt gu) js = in_tables u (mode_words n) in
-      let alike = where_tells t u gt gu ks js lefts rights z.2 in
-      let whole : List TextWord = mode_words m ++ joined (map (definition t) ks) in
+  -- alike words, and the same text of definitions behind them
+  pub shared : (ws vs : List TextWord) → AlikeWords t u gt gu ws vs → spelled t (where_words t (reached_by t ws)) ≡ spelled u (where_words u (reached_by u vs)) → Shared ws
+  shared ws vs h e =
+      let ks : List ℕ = reached_by t ws in
+      let js : List ℕ = reached_by u vs in
+      let lefts : AllByRecursion (InLeft t u gt gu) ks = in_tables t ws in
+      let rights : AllByRecursion (InRight t u gt gu) js = in_tables u vs in
+      let alike = where_tells t u gt gu ks js lefts rights e in
+      let whole : List TextWord = ws ++ joined (map (definition t) ks) in
       let all_left : AllMentions (InLeft t u gt gu) whole =
-      left_in whole (mode_words n ++ joined (map (definition u) js)) (alike_joined t u gt gu (mode_words m) (mode_words n) (joined (map (definition t) ks)) (joined (map (definition u) js)) z.0 (definitions_alike ks js alike)) in
+      left_in whole (vs ++ joined (map (definition u) js)) (alike_joined t u gt gu ws vs (joined (map (definition t) ks)) (joined (map (definition u) js)) h (definitions_alike ks js alike)) in
       let listed = mentions_map (λ k. In k (mentioned t whole)) (λ k. In k (with_new [] (mentioned t whole))) whole (λ k i. in_new k [] (mentioned t whole) i) (mentions_listed whole all_left) in
-      let held : AllMentions (λ k. In k ks) whole = subst (λ (l : List ℕ). AllMentions (λ k. In k l) whole) (sym (all_closed t (mode_words m))) listed in
+      let held : AllMentions (λ k. In k ks) whole = subst (λ (l : List ℕ). AllMentions (λ k. In k l) whole) (sym (all_closed t ws)) listed in
       record {
         ks = ks;
         js = js;
         alike = alike;
         rights = rights;
         lefts = lefts;
-        closed = mentions_right (λ k. In k ks) (mode_words m) (joined (map (definition t) ks)) held;
-        inside = mentions_left (λ k. In k ks) (mode_words m) (joined (map (definition t) ks)) held;
-        level = z.1;
+        closed = mentions_right (λ k. In k ks) ws (joined (map (definition t) ks)) held;
+        inside = mentions_left (λ k. In k ks) ws (joined (map (definition t) ks)) held;
       }
 
-  module _ (m n : Mode) (s : Shared m n) where
-    abbrev P : ℕ → Type 0
+  module _ (ws : List TextWord) (s : Shared ws) where
+    abbrev pub P : ℕ → Type 0
     P k = In k s.ks
 
     one_same : (a b : Mode) → AlikeWords t u gt gu (mode_words a) (mode_words b) → AllMentions P (mode_words a) → Same t u a b
     one_same a b h i = same_of s.ks s.js s.alike s.rights s.lefts s.closed a b h i
-
-    words_of : (l : Mode-F Mode) → out-Mode m ≡ l → AllMentions P (one_mode (map-Mode Mode (List TextWord) mode_words l))
-    words_of l o = subst (AllMentions P) (let e : mode_words m ≡ one_mode (map-Mode Mode (List TextWord) mode_words l) = rw (fold_out-Mode, o) refl in e) s.inside
 
     each_rest : (ms ns : List Mode) → EachAlike t u gt gu ms ns → AllMentions P (after_commas (map mode_words ms)) → EachSame t u ms ns
     each_rest [] [] h i = tt
@@ -457,7 +451,7 @@ module _ (t u : ModeTable) (gt : IsTable t) (gu : IsTable u) where
     rest_fields [] (g ∷ gs) h i = absurd h
     rest_fields (f ∷ fs) [] h i = absurd h
 
-    first_fields : (fs gs : List Field) → FieldsAlike t u gt gu fs gs → AllMentions P (between_commas (map field_words fs)) → FieldsSame t u fs gs
+    pub first_fields : (fs gs : List Field) → FieldsAlike t u gt gu fs gs → AllMentions P (between_commas (map field_words fs)) → FieldsSame t u fs gs
     first_fields [] [] h i = tt
     first_fields (f ∷ fs) (g ∷ gs) h i = let z = field_mentions f (after_commas (map field_words fs)) i in (h.0, one_same f.mode g.mode h.1 z.0, rest_fields fs gs h.2 z.1)
     first_fields [] (g ∷ gs) h i = absurd h
@@ -470,31 +464,42 @@ module _ (t u : ModeTable) (gt : IsTable t) (gu : IsTable u) where
         let held = defined_in s.ks s.js s.alike s.rights s.lefts s.closed s.ks r s.closed i in
         (d.0, first_fields (fields_of t r) (fields_of u q) d.1 (mentions_left P (between_commas (map field_words (fields_of t r))) (Says (codes ")") ∷ []) held))
 
-    level_same : (l k : Mode-F Mode) → out-Mode m ≡ l → LevelAlike t u gt gu l k → LevelSame t u l k
-    level_same Mode-F.Byte Mode-F.Byte o h = tt
-    level_same Mode-F.Byte _ o h = absurd h
-    level_same Mode-F.Int Mode-F.Int o h = tt
-    level_same Mode-F.Int _ o h = absurd h
-    level_same Mode-F.Frac Mode-F.Frac o h = tt
-    level_same Mode-F.Frac _ o h = absurd h
-    level_same Mode-F.Label Mode-F.Label o h = tt
-    level_same Mode-F.Label _ o h = absurd h
-    level_same (Mode-F.Ref a) (Mode-F.Ref b) o h = one_same a b h (words_of (Mode-F.Ref a) o)
-    level_same (Mode-F.Ref a) _ o h = absurd h
-    level_same (Mode-F.RefArray a) (Mode-F.RefArray b) o h = one_same a b h (words_of (Mode-F.RefArray a) o)
-    level_same (Mode-F.RefArray a) _ o h = absurd h
-    level_same (Mode-F.Array i a) (Mode-F.Array j b) o h = (h.0, one_same a b h.1 (words_of (Mode-F.Array i a) o))
-    level_same (Mode-F.Array i a) _ o h = absurd h
-    level_same (Mode-F.Record r) (Mode-F.Record q) o h = records_same r q h (words_of (Mode-F.Record r) o).0
-    level_same (Mode-F.Record r) _ o h = absurd h
-    level_same (Mode-F.Proc ps None) (Mode-F.Proc qs q) o h =
-        let i = words_of (Mode-F.Proc ps None) o in
-        (each_first ps qs h.0 (mentions_left P (between_commas (map mode_words ps)) (result_words None) i), any_same None q h.1 (mentions_right P (between_commas (map mode_words ps)) (result_words None) i))
-    level_same (Mode-F.Proc ps None) _ o h = absurd h
-    level_same (Mode-F.Proc ps (Some r)) (Mode-F.Proc qs q) o h =
-        let i = words_of (Mode-F.Proc ps (Some r)) o in
-        (each_first ps qs h.0 (mentions_left P (between_commas (map mode_words ps)) (result_words (Some (mode_words r))) i), any_same (Some r) q h.1 (mentions_right P (between_commas (map mode_words ps)) (result_words (Some (mode_words r))) i))
-    level_same (Mode-F.Proc ps (Some r)) _ o h = absurd h
+    -- ---- two modes of one full mode
+
+    module _ (m : Mode) (is : ws ≡ mode_words m) where
+      words_of : (l : Mode-F Mode) → out-Mode m ≡ l → AllMentions P (one_mode (map-Mode Mode (List TextWord) mode_words l))
+      words_of l o = subst (AllMentions P) (is ∙ (let e : mode_words m ≡ one_mode (map-Mode Mode (List TextWord) mode_words l) = rw (fold_out-Mode, o) refl in e)) s.inside
+
+      level_same : (l k : Mode-F Mode) → out-Mode m ≡ l → LevelAlike t u gt gu l k → LevelSame t u l k
+      level_same Mode-F.Byte Mode-F.Byte o h = tt
+      level_same Mode-F.Byte _ o h = absurd h
+      level_same Mode-F.Int Mode-F.Int o h = tt
+      level_same Mode-F.Int _ o h = absurd h
+      level_same Mode-F.Frac Mode-F.Frac o h = tt
+      level_same Mode-F.Frac _ o h = absurd h
+      level_same Mode-F.Label Mode-F.Label o h = tt
+      level_same Mode-F.Label _ o h = absurd h
+      level_same (Mode-F.Ref a) (Mode-F.Ref b) o h = one_same a b h (words_of (Mode-F.Ref a) o)
+      level_same (Mode-F.Ref a) _ o h = absurd h
+      level_same (Mode-F.RefArray a) (Mode-F.RefArray b) o h = one_same a b h (words_of (Mode-F.RefArray a) o)
+      level_same (Mode-F.RefArray a) _ o h = absurd h
+      level_same (Mode-F.Array i a) (Mode-F.Array j b) o h = (h.0, one_same a b h.1 (words_of (Mode-F.Array i a) o))
+      level_same (Mode-F.Array i a) _ o h = absurd h
+      level_same (Mode-F.Record r) (Mode-F.Record q) o h = records_same r q h (words_of (Mode-F.Record r) o).0
+      level_same (Mode-F.Record r) _ o h = absurd h
+      level_same (Mode-F.Proc ps None) (Mode-F.Proc qs q) o h =
+          let i = words_of (Mode-F.Proc ps None) o in
+          (each_first ps qs h.0 (mentions_left P (between_commas (map mode_words ps)) (result_words None) i), any_same None q h.1 (mentions_right P (between_commas (map mode_words ps)) (result_words None) i))
+      level_same (Mode-F.Proc ps None) _ o h = absurd h
+      level_same (Mode-F.Proc ps (Some r)) (Mode-F.Proc qs q) o h =
+          let i = words_of (Mode-F.Proc ps (Some r)) o in
+          (each_first ps qs h.0 (mentions_left P (between_commas (map mode_words ps)) (result_words (Some (mode_words r))) i), any_same (Some r) q h.1 (mentions_right P (between_commas (map mode_words ps)) (result_words (Some (mode_words r))) i))
+      level_same (Mode-F.Proc ps (Some r)) _ o h = absurd h
 
   pub full_modes_open : (m n : Mode) → MayStand t m → MayStand u n → Same t u m n → LevelSame t u (out-Mode m) (out-Mode n)
-  full_modes_open m n sm sn e = let s = shared m n sm sn e in level_same m n s (out-Mode m) (out-Mode n) refl s.level
+  full_modes_open m n sm sn e =
+      let ks : List ℕ = reached_by t (mode_words m) in
+      let js : List ℕ = reached_by u (mode_words n) in
+      let z = known t u gt gu m n (spelled t (where_words t ks)) (spelled u (where_words u js)) sm sn (tell.where_closes t gt.names gt.apart ks) (tell.where_closes u gu.names gu.apart js)
+      (sym (tell.full_split t gt.names gt.apart m) ∙ e ∙ tell.full_split u gu.names gu.apart n) in
+      level_same (mode_words m) (shared (mode_words m) (mode_words n) z.0 z.2) m refl (out-Mode m) (out-Mode n) refl z.1

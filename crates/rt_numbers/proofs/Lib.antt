@@ -1,0 +1,6 @@
+mod Words
+mod Defaults
+mod Made
+mod Bricks
+mod Strings
+mod Whole
