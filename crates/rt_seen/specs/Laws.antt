@@ -16,7 +16,6 @@ use Rattle.rt_exprs.specs.Fitting.{Fits, Assigns, AssignsVal, CallIs, TestIs}
 use Rattle.rt_tree.specs.Modules.{local_stands}
 use Rattle.rt_tree.specs.Statements.{tested}
 use Rattle.rt_typing.specs.Agreeing.{Agree}
-use Rattle.rt_typing.specs.Laws.{joins_two}
 use Rattle.rt_derived.specs.Numbers.{words_in_expr, words_in_chain, words_in_cond}
 use Rattle.rt_within.specs.Modes.{ModesStand}
 use Rattle.rt_kept.specs.Trees.{Started}
@@ -26,7 +25,7 @@ use Rattle.rt_seen.specs.Short.{AllShort}
 
 -- the value that fits an expression where a mode is wanted
 abbrev pub ValuesAreSeen : Type 0
-ValuesAreSeen = (s : Names) (c : Scope) (k : Started) (e : Expr) (m : Mode) (x : Value) → Agree s c → AllShort c → LocalsSeen s k → words_in_expr e ≡ true → Fits s e m x
+ValuesAreSeen = (s : Names) (c : Scope) (k : Started) (e : Expr) (m : Mode) (x : Value) → AllShort c → LocalsSeen s k → words_in_expr e ≡ true → Fits s e m x
     → TermNamed any_name k (valued c x).tree
 
 -- the place that a chain assigns, and the one that VAL and a chain assign
@@ -40,12 +39,12 @@ ValTargetsAreSeen = (s : Names) (c : Scope) (k : Started) (at : At) (h : Chain) 
 
 -- a call that stands alone
 abbrev pub CallsAreSeen : Type 0
-CallsAreSeen = (s : Names) (c : Scope) (k : Started) (h : Chain) (x : Value) → Agree s c → AllShort c → LocalsSeen s k → words_in_chain h ≡ true → CallIs s h x
+CallsAreSeen = (s : Names) (c : Scope) (k : Started) (h : Chain) (x : Value) → AllShort c → LocalsSeen s k → words_in_chain h ≡ true → CallIs s h x
     → TermNamed any_name k (valued c x).tree
 
 -- the test that a condition is
 abbrev pub TestsAreSeen : Type 0
-TestsAreSeen = (s : Names) (c : Scope) (k : Started) (d : Cond) (t : Test) → Agree s c → AllShort c → LocalsSeen s k → words_in_cond d ≡ true → joins_two d ≡ true → TestIs s d t
+TestsAreSeen = (s : Names) (c : Scope) (k : Started) (d : Cond) (t : Test) → AllShort c → LocalsSeen s k → words_in_cond d ≡ true → TestIs s d t
     → CondNamed any_name k (tested c t).tree
 
 -- The lengths in the modes of a scope are words, where its modes may stand, those of its parameters and locals among them.
