@@ -1,5 +1,5 @@
 -- The starts of a module's data bricks have words alone.
-use Rattle.std.proofs.Common.{◌≡◌, ℕ, ◌&&◌, true, List, [], ◌∷◌, length, map, drop, Option, Some, None, sym, subst}
+use Rattle.std.proofs.Common.{◌≡◌, true, List, [], ◌∷◌, length, map, drop, Option, Some, None, subst}
 use Rattle.std.specs.List.{AllByRecursion}
 use Rattle.rt_bricks.specs.declared.tree.DataItem.{DataItem}
 use Rattle.rt_bricks.specs.declared.tree.DataLine.{DataLine}
@@ -28,7 +28,7 @@ use Rattle.rt_starts.specs.Items.{records, start_by, items_starts, brick_starts}
 use Rattle.rt_started.specs.Laws.{AreBytes}
 use Rattle.rt_started.proofs.Texts.{items_keep, lines_keep}
 use Rattle.rt_typed.specs.declared.filling.Filling.{Filling}
-use Rattle.rt_typed.specs.Modules.{first, items_in, nothing, sort_by, brick_by, filled, gathered, fillings_in}
+use Rattle.rt_typed.specs.Modules.{first, items_in, nothing, sort_by, filled, gathered, fillings_in}
 use Rattle.rt_judged.proofs.Lists.{left_of, right_of, all_joined}
 use Rattle.rt_judged.proofs.Texts.{ShortIn, short_bytes}
 use Rattle.rt_numbers.proofs.Words.{AreWords, all_copies}

@@ -1,7 +1,6 @@
 -- The start of an item for which nothing is written has words alone.
 use Rattle.std.proofs.Common.{ℕ, zero, suc, List, Option, Some, None, length, map, slice_get, arith}
 use Rattle.std.specs.Prelude.{replicate}
-use Rattle.std.specs.List.{AllByRecursion}
 use Rattle.rt_modes.specs.declared.mode.Field.{Field}
 use Rattle.rt_modes.specs.declared.mode.Mode.{Mode, out-Mode}
 use Rattle.rt_modes.specs.declared.mode.Mode.TheOpen.{Mode-F}

@@ -1,6 +1,6 @@
 -- What is made of a start has words alone, where those that are written are words.
-use Rattle.std.proofs.Common.{◌≡◌, ℕ, ◌+◌, ◌-◌, ◌%◌, ◌<◌, ◌&&◌, Bool, true, false, if◌then◌else◌, List, [], ◌∷◌, ◌++◌, Option, length, map, take, drop, arith, refl, sym, ap, ◌∙◌, subst}
-use Rattle.std.specs.Prelude.{nat_lt, replicate}
+use Rattle.std.proofs.Common.{◌≡◌, ℕ, Bool, true, false, if◌then◌else◌, List, [], ◌∷◌, ◌++◌, Option, map, take, drop, arith, refl, sym, ◌∙◌, subst}
+use Rattle.std.specs.Prelude.{replicate}
 use Rattle.std.specs.List.{AllByRecursion}
 use Rattle.std.proofs.lemmas.Bool.Decides.{nat_tests}
 use Rattle.rt_bricks.specs.declared.tree.Selector.{Selector}
@@ -21,7 +21,7 @@ use Rattle.rt_written.specs.Written.{Names}
 use Rattle.rt_accepted.specs.Texts.{all as all_so}
 use Rattle.rt_derived.specs.Numbers.{is_word, words_in_copies, start_words, words_in_start}
 use Rattle.rt_derived.specs.Strings.{in_start}
-use Rattle.rt_starts.specs.Places.{Found, unfit, procedure, shared, private, other, place_made}
+use Rattle.rt_starts.specs.Places.{Found, procedure, shared, place_made}
 use Rattle.rt_starts.specs.Starts.{Written, Wanted, elements, fields, nothing, wanted, each_made, all_made, fields_made, parts_made, is_negative, word, text_made, number_of, written}
 use Rattle.rt_starts.proofs.Lists.{written_at}
 use Rattle.rt_started.specs.Laws.{AreBytes}

@@ -1,5 +1,5 @@
 -- The strings of a module's tree have bytes alone.
-use Rattle.std.proofs.Common.{ℕ, List, [], ◌∷◌, map, drop, Option, sym, subst}
+use Rattle.std.proofs.Common.{List, [], ◌∷◌, map, drop, Option, sym, subst}
 use Rattle.std.specs.List.{AllByRecursion}
 use Rattle.rt_bricks.specs.declared.tree.Declaration.{Declaration}
 use Rattle.rt_bricks.specs.declared.tree.Declaration.TheVariants as declares
