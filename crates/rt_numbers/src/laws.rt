@@ -2,8 +2,7 @@
 
 ghost use Rattle.rt_numbers.specs.Laws.{NumbersAreFit};
 
-/// In the tree of a module in which no fault stands each number in a start of data is below 65,536, and each byte of a string
-/// is below 256.
+/// In the tree of a module of a text each number in a start of data is below 65,536, and each byte of a string is below 256.
 pub fn numbers_fit()
     ensures { NumbersAreFit }
 {}

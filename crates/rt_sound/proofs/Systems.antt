@@ -55,7 +55,7 @@ known ranged words p o =
 
 module _ (numbered : NumbersAreFit) (bodies : ModulesAreNamed) (nodes : NodesFit) (tabled : RecordsAreTables) (fields : DataItemsAreFields) (p : ModuleParts) (k : IsKnown p) where
   numbers : NumbersFit p
-  numbers = subst NumbersFit (sym k.is) (numbered k.items k.source k.faults k.text k.faultless)
+  numbers = subst NumbersFit (sym k.is) (numbered k.items k.source k.faults k.text)
 
   node : every_node_fits p ≡ true
   node = ap every_node_fits k.is ∙ nodes k.items k.source k.faults k.text k.faultless

@@ -2,4 +2,4 @@ use Rattle.rt_numbers.proofs.Whole.{numbers_are_fit}
 use Rattle.rt_numbers.proofs.laws.numbers_fit.Goals as goal
 
 pub returns : goal.returns
-returns c items m us t h = numbers_are_fit items m us t
+returns c = numbers_are_fit
