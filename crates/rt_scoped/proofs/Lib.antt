@@ -1,3 +1,5 @@
 pub mod Sets
 pub mod Standing
 pub mod Seen
+pub mod Judged
+pub mod Good

@@ -66,7 +66,7 @@ pub record Made (from to inner : ℕ) (stands : ℕ → Type 0) (named : Sets �
   pub stand : (l : ℕ) → from ≤ l → l < from + inner → stands l
   pub naming : (at : Sets) → SetsAt at from sets → named at
 
-below_or : (l m : ℕ) → (l < m) ⊎ (m ≤ l)
+pub below_or : (l m : ℕ) → (l < m) ⊎ (m ≤ l)
 below_or l m = by_test (nat_lt l m) refl where
   by_test : (c : Bool) → nat_lt l m ≡ c → (l < m) ⊎ (m ≤ l)
   by_test true e = inl (grind (arith, nat_tests))
@@ -81,12 +81,16 @@ made_as from to inner h f g = record { sets = h.sets; count = h.count; labels = 
 
 -- the same from an equal number on
 pub made_from : {stands : ℕ → Type 0} {named : Sets → Type 0} (a b to inner : ℕ) → a ≡ b → Made a to inner stands named → Made b to inner stands named
-made_from {stands} {named} a b to inner e h = subst (λ (n : ℕ). Made n to inner stands named) e h
+made_from {stands = stands} {named = named} a b to inner e h = subst (λ (n : ℕ). Made n to inner stands named) e h
+
+-- the same with an equal number of labels
+pub made_counted : {stands : ℕ → Type 0} {named : Sets → Type 0} (from to i j : ℕ) → i ≡ j → Made from to i stands named → Made from to j stands named
+made_counted {stands = stands} {named = named} from to i j e h = subst (λ (n : ℕ). Made from to n stands named) e h
 
 -- one part and another behind it
 pub made_then : {first second stands : ℕ → Type 0} {one other named : Sets → Type 0} (a b c i j : ℕ) → Made a b i first one → Made b c j second other → ((l : ℕ) → first l → stands l) → ((l : ℕ) → second l → stands l)
     → ((at : Sets) → one at → other at → named at) → Made a c (i + j) stands named
-made_then {first} {second} {stands} {one} {other} {named} a b c i j h g f k m = record {
+made_then {stands = stands} a b c i j h g f k m = record {
   sets = h.sets ++ g.sets;
   count = length-append h.sets g.sets ∙ omega (arith, h.count, g.count);
   labels = omega (arith, h.labels, g.labels);
@@ -101,8 +105,8 @@ made_then {first} {second} {stands} {one} {other} {named} a b c i j h g f k m = 
 -- so many labels with one set, and a part behind them
 pub made_labelled : {inside stands : ℕ → Type 0} {named so : Sets → Type 0} (a b c i j : ℕ) (v : Started) → b ≡ a + i → Made b c j inside named → ((l : ℕ) → a ≤ l → l < a + i → stands l) → ((l : ℕ) → inside l → stands l)
     → ((at : Sets) → AllAt at a i v → named at → so at) → Made a c (i + j) stands so
-made_labelled {inside} {stands} {named} {so} a b c i j v e h own f g =
-    made_then a b c i j
+made_labelled a b c i j v e h own f g =
+    made_then {first = λ (l : ℕ). (a ≤ l) × (l < a + i)} {one = λ (at : Sets). AllAt at a i v} a b c i j
     (record { sets = replicate i v; count = copies i; labels = e; stand = λ l x y. (x, y); naming = λ at z. all_at at a i v z }) h (λ l x. own l x.0 x.1) f g where
       copies : (n : ℕ) → length (replicate n v) ≡ n
       copies zero = refl
