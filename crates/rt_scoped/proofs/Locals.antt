@@ -50,7 +50,7 @@ noted_labels : (b : Bool) (g : CheckFault) (t : Tally) → (noted_if b g t).labe
 noted_labels true g t = refl
 noted_labels false g t = refl
 
-mode_labels : (o : Outcome Mode) (t : Tally) → (mode_or o t).1.labels ≡ t.labels
+pub mode_labels : (o : Outcome Mode) (t : Tally) → (mode_or o t).1.labels ≡ t.labels
 mode_labels (Ok m) t = refl
 mode_labels (Err g) t = refl
 
