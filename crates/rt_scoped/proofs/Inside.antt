@@ -100,7 +100,7 @@ module _ (c : Scope) (a : Around c) where
         let rows : List Labelled = (sequence u.0.sight xs u.1).0 in
         let q : Seq = rows_tree c rows in
         let is : body_tree c (spec.one_body r (record { locals = ls; statements = xs; at = place }) s t).0 ≡ starts_tree c d.starts q = made_body c u.0.starts rows ∙ ap (λ (ds : List LocalStart). starts_tree c ds q) d.is in
-        subst (λ (w : Seq). Parted t.labels _ (sum ns) (StandsIn w) (λ at. Sees at c v s → SeqNamed any_name at v w)) (sym is)
+        subst (λ (w : Seq). Parted t.labels (sequence u.0.sight xs u.1).1.labels (sum ns) (StandsIn w) (λ at. Sees at c v s → SeqNamed any_name at v w)) (sym is)
         (made_as t.labels _ (sum ns) (made_from u.1.labels t.labels _ (sum ns) d.labels go) (λ l k. starts_stand d.starts q l k)
         (λ at k e. let inside = sees_within at c v s [] e tt in d.named at q inside (k (d.sees at inside))));
   }
@@ -173,7 +173,7 @@ module _ (c : Scope) (a : Around c) where
         let u : Test × Tally = test_or (test_in s d) t in
         let same = test_labels c a s d t in
         let go = sequence_made c xs ns h s u.1 v f (omega (arith, b, same)) z in
-        subst (λ (b : Cond × Seq). Parted t.labels _ (sum ns) (StandsIn b.1) (λ at. Sees at c v s → BranchNamed at v b)) (sym (made_branch c u.0 (sequence s xs u.1).0))
+        subst (λ (b : Cond × Seq). Parted t.labels (sequence s xs u.1).1.labels (sum ns) (StandsIn b.1) (λ at. Sees at c v s → BranchNamed at v b)) (sym (made_branch c u.0 (sequence s xs u.1).0))
         (made_as t.labels _ (sum ns) (made_from u.1.labels t.labels _ (sum ns) same go) (λ l k. k) (λ at k e. (test_named c a at v s e d w j t, k e)));
   }
 
@@ -224,12 +224,12 @@ module _ (c : Scope) (a : Around c) where
   module _ (e : Seq) where
     branch_stands : (bs : List BranchMade) (l : ℕ) → StandsIn_any bs l → StandsIn (branches_tree (map (branch_of c) bs) e) l
     branch_stands [] l h = absurd h
-    branch_stands (b ∷ bs) l (inl h) = stands_first _ Done l (stands_chosen (branch_of c b).0 (branch_of c b).1 (branches_tree (map (branch_of c) bs) e) l h)
-    branch_stands (b ∷ bs) l (inr h) = stands_first _ Done l (stands_otherwise (branch_of c b).0 (branch_of c b).1 (branches_tree (map (branch_of c) bs) e) l (branch_stands bs l h))
+    branch_stands (b ∷ bs) l (inl h) = stands_first (If (branch_of c b).0 (branch_of c b).1 (branches_tree (map (branch_of c) bs) e)) Done l (stands_chosen (branch_of c b).0 (branch_of c b).1 (branches_tree (map (branch_of c) bs) e) l h)
+    branch_stands (b ∷ bs) l (inr h) = stands_first (If (branch_of c b).0 (branch_of c b).1 (branches_tree (map (branch_of c) bs) e)) Done l (stands_otherwise (branch_of c b).0 (branch_of c b).1 (branches_tree (map (branch_of c) bs) e) l (branch_stands bs l h))
 
     otherwise_stands : (bs : List BranchMade) (l : ℕ) → StandsIn e l → StandsIn (branches_tree (map (branch_of c) bs) e) l
     otherwise_stands [] l h = h
-    otherwise_stands (b ∷ bs) l h = stands_first _ Done l (stands_otherwise (branch_of c b).0 (branch_of c b).1 (branches_tree (map (branch_of c) bs) e) l (otherwise_stands bs l h))
+    otherwise_stands (b ∷ bs) l h = stands_first (If (branch_of c b).0 (branch_of c b).1 (branches_tree (map (branch_of c) bs) e)) Done l (stands_otherwise (branch_of c b).0 (branch_of c b).1 (branches_tree (map (branch_of c) bs) e) l (otherwise_stands bs l h))
 
     branches_named : (at : Sets) (v : Started) (bs : List BranchMade) → EachNamed at v bs → SeqNamed any_name at v e → SeqNamed any_name at v (branches_tree (map (branch_of c) bs) e)
     branches_named at v [] h g = g
@@ -242,7 +242,7 @@ module _ (c : Scope) (a : Around c) where
     branch_inside (b ∷ bs) l (inr h) = stands_otherwise (branch_of c b).0 (branch_of c b).1 (branches_tree (map (branch_of c) bs) e) l (branch_stands bs l h)
 
     otherwise_inside : (bs : List BranchMade) (l : ℕ) → StandsIn e l → StandsInside (if_tree (map (branch_of c) bs) e) l
-    otherwise_inside [] l h rest = h rest
+    otherwise_inside [] l h = λ rest. h rest
     otherwise_inside (b ∷ bs) l h = stands_otherwise (branch_of c b).0 (branch_of c b).1 (branches_tree (map (branch_of c) bs) e) l (otherwise_stands bs l h)
 
     if_named : (at : Sets) (v : Started) (bs : List BranchMade) → EachNamed at v bs → SeqNamed any_name at v e → StmtNamed any_name at v (if_tree (map (branch_of c) bs) e)

@@ -1,5 +1,5 @@
 -- The statements of a sequence name locals where these have a value, and its labels stand in it.
-use Rattle.std.proofs.Common.{◌≡◌, ◌⊎◌, inl, inr, ℕ, suc, ◌+◌, ◌<◌, ◌≤◌, Bool, true, false, List, [], ◌∷◌, ◌++◌, length, map, Option, Some, None, option_map, append_assoc, arith, refl, sym, ap, ◌∙◌, subst}
+use Rattle.std.proofs.Common.{◌≡◌, ◌⊎◌, inl, inr, ℕ, zero, suc, ◌+◌, ◌<◌, ◌≤◌, Bool, true, false, List, [], ◌∷◌, ◌++◌, length, map, Option, Some, None, option_map, append_assoc, arith, refl, sym, ap, ◌∙◌, subst}
 use Rattle.std.proofs.lemmas.List.{append-nil}
 use Rattle.rt_grammar.specs.declared.at.Ident.{Ident}
 use Rattle.rt_nodes.specs.declared.statement.Labelled.{Labelled}
@@ -47,10 +47,10 @@ within_behind v (Recover l) = within_self v
 
 module _ (at : Sets) (v : Started) where
   pub then_named : (a : Stmt) (q : Seq) → StmtNamed any_name at v a → SeqNamed any_name at v q → SeqNamed any_name at v (Then a q)
-  then_named a q h g = (h, v, within_self v, within_behind v a, g)
+  then_named a q h g = (h, (v, within_self v, within_behind v a, g))
 
   marks_named : (k n : ℕ) (q : Seq) → AllAt at k n v → SeqNamed any_name at v q → SeqNamed any_name at v (marks (up_from k n) q)
-  marks_named k 0 q h g = g
+  marks_named k zero q h g = g
   marks_named k (suc n) q h g = (v, h k (omega arith) (omega arith), within_self v, within_self v, marks_named (suc k) n q (λ l x y. h l (omega (arith, x)) (omega (arith, y))) g)
 
 -- ---- labels
@@ -216,7 +216,7 @@ module _ (c : Scope) where
         is = go.is ∙ append_assoc done (labelled ls o.0 ∷ []) go.rows;
         stand = λ l x y. subst (λ (w : Seq). StandsIn w l) (sym is)
             (own_or_later k m (labels_on xs) after q o.0 number.1 go.stand l x y (below_or l (k + m)));
-        made = subst (λ (w : Seq). Made t.labels _ _ (StandsIn w) (λ at. AllAt at k (m + labels_on xs) v → Sees at c v s → SeqNamed any_name at v w)) (sym is)
+        made = subst (λ (w : Seq). Made t.labels (in_order s after more xs o.1).1.labels (h.0.inner + inners xs ns h.1) (StandsIn w) (λ at. AllAt at k (m + labels_on xs) v → Sees at c v s → SeqNamed any_name at v w)) (sym is)
             (made_then t.labels o.1.labels _ h.0.inner (inners xs ns h.1) one go.made (λ l p. line_inside k m q o.0 l p) (λ l p. line_later k m q o.0 l p)
             (λ at p r g e. line_named k m q at v o.0 (λ l x y. g l x (omega (arith, y))) (p e) (r (λ l x y. g l (omega (arith, x, number.1)) (omega (arith, y, number.1))) e)));
       }
@@ -231,7 +231,7 @@ module _ (c : Scope) where
       let whole = all_counted xs ns h in
       let count = all_labels_count [] xs t (omega (arith, b, whole)) in
       let go = order_made xs ns h (within u.0 s) v t.labels [] u.1 f (omega (arith, b, whole)) (omega (arith, b, whole, count)) z in
-      subst (λ (rows : List Labelled). Made t.labels _ (sum ns) (StandsIn (rows_tree rows)) (λ at. Sees at c v s → SeqNamed any_name at v (rows_tree rows))) (sym go.is)
+      subst (λ (rows : List Labelled). Made t.labels (sequence s xs t).1.labels (sum ns) (StandsIn (rows_tree rows)) (λ at. Sees at c v s → SeqNamed any_name at v (rows_tree rows))) (sym go.is)
       (made_counted t.labels _ (labels_on xs + inners xs ns h) (sum ns) whole
       (made_labelled t.labels u.1.labels _ (labels_on xs) (inners xs ns h) v count go.made go.stand (λ l p. p)
       (λ at g p e. p g (sees_within at c v s u.0 e (all_labels_seen at c v t.labels (labels_on xs) (omega (arith, b, whole)) g [] xs t (omega arith) (omega arith) tt)))))

@@ -81,13 +81,13 @@ module _ (c : Scope) (a : Around c) where
     after = v;
     more = within_self v;
     here = z i (made.Variable m) there (zero_start n t (starts_at_zero (out-Mode m)) f);
-    named = λ at q k g. (tt, v, within_self v, within_self v, g);
+    named = λ at q k g. (tt, (v, within_self v, within_self v, g));
   }
   start_made s n m (Some e) t v i w f there z = record {
     after = and_local v i;
     more = within_more v i;
     here = given v i;
-    named = λ at q k g. (value_named c a at v s k e w m t, and_local v i, within_more v i, within_self (and_local v i), g);
+    named = λ at q k g. (value_named c a at v s k e w m t, (and_local v i, within_more v i, within_self (and_local v i), g));
   }
 
   start_labels : (s : Sight) (n : Ident) (m : Mode) (e : Option Expr) (t : Tally) → (start_in s n m e t).1.labels ≡ t.labels
@@ -163,6 +163,7 @@ module _ (c : Scope) (a : Around c) where
       declared_then v d t u (locals_more m u.0 ns u.1) one go
 
   line_made : (d : Declared) (l : Locals) (t : Tally) (v : Started) → words_in_locals l ≡ true → Fine c (line_more d l t).1 → Zeroed c v → DeclaredMade v d t (line_more d l t)
+  unfolding nothing_declared
   line_made d l t v w f z =
       let u : Outcome Mode × Tally = mode_or (mode_in d.sight l.at l.mode) t in
       declared_then v d t (d, u.1) (line_more d l t) (nothing_declared v d t u.1 (mode_labels (mode_in d.sight l.at l.mode) t))
