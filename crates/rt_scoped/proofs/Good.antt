@@ -1,7 +1,6 @@
 -- Statements by themselves name locals where these have a value.
 use Rattle.std.proofs.Common.{◌≡◌, ℕ, ◌+◌, ◌<◌, ◌==◌, ◌&&◌, if◌then◌else◌, Bool, true, false, List, [], ◌∷◌, ◌++◌, Option, Some, None, Ok, Err, append_assoc, arith, refl, sym, ap, ◌∙◌, subst}
 use Rattle.std.specs.Prelude.{slice_get}
-use Rattle.std.proofs.lemmas.Bool.Decides.{nat_tests}
 use Rattle.std.proofs.lemmas.List.{append-nil}
 use Rattle.rt_grammar.specs.declared.at.At.{At}
 use Rattle.rt_grammar.specs.declared.at.Ident.{Ident}
@@ -15,7 +14,7 @@ use Rattle.rt_nodes.specs.declared.operators.Rel.{Rel}
 use Rattle.rt_nodes.specs.declared.operators.Rel.TheVariants as rel
 use Rattle.rt_nodes.specs.declared.statement.Stat.{Stat}
 use Rattle.rt_nodes.specs.declared.statement.Stat.TheVariants as stats
-use Rattle.rt_nodes.specs.declared.statement.Test.{Test, out-Test}
+use Rattle.rt_nodes.specs.declared.statement.Test.{out-Test}
 use Rattle.rt_nodes.specs.declared.statement.Test as test_lemmas
 use Rattle.rt_nodes.specs.declared.statement.Test.TheFolds.{fold_out-Test}
 use Rattle.rt_nodes.specs.declared.statement.Test.TheOpen.{Test-F}
@@ -23,7 +22,7 @@ use Rattle.rt_nodes.specs.declared.statement.Test.TheVariants as tests
 use Rattle.rt_nodes.specs.declared.value.Value.{Value}
 use Rattle.rt_nodes.specs.declared.value.Value.TheVariants as values
 use Rattle.rt_nodes.specs.Scopes.{Scope}
-use Rattle.rt_nodes.specs.Tree.{Term, Cond as Made_cond, Is, Stmt, Goto}
+use Rattle.rt_nodes.specs.Tree.{Term, Is}
 use Rattle.rt_nodes.specs.Typing.{Placed, Valued, Spot, OnLocal, OnPath, OnRow, placed, valued}
 use Rattle.rt_operands.specs.Outcomes.{Outcome, ◌>>=◌}
 use Rattle.rt_operands.specs.declared.scope.Meaning.{Meaning}
@@ -45,7 +44,7 @@ use Rattle.rt_derived.specs.Numbers.{words_in_expr, words_in_any, words_in_chain
 use Rattle.rt_weighed.proofs.Trees.{tree_number}
 use Rattle.rt_within.proofs.Good.{found_is}
 use Rattle.rt_within.proofs.Made.{stat_of, made_call, made_assign, made_goto, made_back, made_return, made_switch}
-use Rattle.rt_kept.specs.Trees.{Started, Within, mode_of_local}
+use Rattle.rt_kept.specs.Trees.{Started, mode_of_local}
 use Rattle.rt_kept.specs.Named.{any_name, TermNamed, CondNamed, LabelNamed, LabelsNamed, StmtNamed}
 use Rattle.rt_seen.specs.Seen.{SpotNamed}
 use Rattle.rt_scoped.proofs.Judged.{Around, value_judged, target_judged, val_judged, call_judged, test_judged}

@@ -11,7 +11,7 @@ use Rattle.rt_modes.specs.declared.mode.Mode.TheOpen.{Mode-F}
 use Rattle.rt_modes.specs.declared.mode.Mode.TheVariants as mode
 use Rattle.rt_syntax.specs.declared.tree.Control.{Control}
 use Rattle.rt_syntax.specs.declared.tree.Locals.{Locals}
-use Rattle.rt_syntax.specs.declared.tree.Simple.TheOpen.{Simple-F, Body-F, Branch-F}
+use Rattle.rt_syntax.specs.declared.tree.Simple.TheOpen.{Simple-F}
 use Rattle.rt_nodes.specs.declared.brick.Local.{Local as Made_local}
 use Rattle.rt_nodes.specs.declared.brick.Local.TheVariants as made
 use Rattle.rt_nodes.specs.declared.statement.Branch.{Branch as BranchMade}
@@ -20,10 +20,9 @@ use Rattle.rt_nodes.specs.declared.statement.LocalStart.{LocalStart}
 use Rattle.rt_nodes.specs.declared.statement.Test.{Test}
 use Rattle.rt_nodes.specs.declared.value.Value.{Value}
 use Rattle.rt_nodes.specs.Scopes.{Scope}
-use Rattle.rt_nodes.specs.Tree.{Cond, Stmt, Inner, If, For, To, While, Seq, Done, Then}
-use Rattle.rt_nodes.specs.Typing.{valued}
+use Rattle.rt_nodes.specs.Tree.{Cond, Stmt, If, Seq, Done}
 use Rattle.rt_operands.specs.declared.scope.Meaning.TheVariants as meaning
-use Rattle.rt_tree.specs.Statements.{starts_at_zero, start_tree, starts_tree, step_tree, branches_tree, if_tree, body_tree, tested}
+use Rattle.rt_tree.specs.Statements.{starts_at_zero, start_tree, starts_tree, branches_tree, if_tree, body_tree}
 use Rattle.rt_typing.specs.Laws.{joins_two}
 use Rattle.rt_work.specs.Task.{Again, TurnFor, TurnTo}
 use Rattle.rt_names.specs.declared.tally.Tally.{Tally}
@@ -34,16 +33,16 @@ use Rattle.rt_statements.specs.declared.plain.Bounds.{Bounds}
 use Rattle.rt_statements.specs.Statements as spec
 use Rattle.rt_statements.specs.Statements.{Line, Declared, JudgedBody, JudgedBranch, before, declarations, branches, sequence, bounds_in, variable_of, for_loop, to_loop, int_in, any_int_in}
 use Rattle.rt_accepted.specs.Texts.{sum, all}
-use Rattle.rt_accepted.proofs.Growing.{Pre, pre_then, grew_same, grew_then, Growing, BranchesGrow, grow_found, grow_three, grow_declarations, grow_sequence, grow_branches, grow_for, grow_to}
+use Rattle.rt_accepted.proofs.Growing.{Pre, pre_then, grew_same, grew_then, Growing, BranchesGrow, grow_found, grow_declarations, grow_sequence, grow_branches, grow_for, grow_to}
 use Rattle.rt_accepted.proofs.Sequences.{one_longer, pre_length, pre_get, small_rest, Fine, fine_before}
 use Rattle.rt_derived.specs.Numbers.{words_in_expr, words_in_any, words_in_cond, words_in_locals, words_in_control}
-use Rattle.rt_within.proofs.Made.{stat_of, branch_of, line_of, made_block, made_while, made_to, made_for, made_if, made_else, made_body, made_branch}
-use Rattle.rt_kept.specs.Trees.{Started, mode_of_local}
+use Rattle.rt_within.proofs.Made.{stat_of, branch_of, made_block, made_while, made_to, made_for, made_if, made_else, made_body, made_branch}
+use Rattle.rt_kept.specs.Trees.{Started}
 use Rattle.rt_kept.specs.Named.{any_name, CondNamed, StmtNamed, SeqNamed}
 use Rattle.rt_scoped.proofs.Good.{Zeroed, StatGood, int_named, int_labels, step_named, step_labels, test_named, test_labels}
 use Rattle.rt_scoped.proofs.Judged.{Around}
 use Rattle.rt_scoped.proofs.Lines.{then_named, AllGood, all_grow, rows_tree, sequence_made}
-use Rattle.rt_scoped.proofs.Locals.{DeclaredMade, zeroed_more, declarations_made}
+use Rattle.rt_scoped.proofs.Locals.{zeroed_more, declarations_made}
 use Rattle.rt_scoped.proofs.Seen.{IsSeen, declared_has, Sees, sees_within}
 use Rattle.rt_scoped.proofs.Sets.{Sets, Made as Parted, made_alone, made_as, made_from, made_counted, made_then}
 use Rattle.rt_scoped.proofs.Standing.{StandsIn, StandsInside, stands_first, stands_later, stands_chosen, stands_otherwise}

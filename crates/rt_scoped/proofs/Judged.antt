@@ -1,5 +1,5 @@
 -- What is judged fit names only locals that have a value, where the names that are seen do.
-use Rattle.std.proofs.Common.{◌≡◌, ℕ, ◌<◌, true, List, length, Some, Ok, refl, subst}
+use Rattle.std.proofs.Common.{◌≡◌, ◌<◌, true, length, Ok, subst}
 use Rattle.std.specs.List.{list_all}
 use Rattle.rt_grammar.specs.declared.at.At.{At}
 use Rattle.rt_expression.specs.declared.tree.Chain.{Chain}

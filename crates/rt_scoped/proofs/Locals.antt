@@ -1,5 +1,5 @@
 -- Declarations of locals name locals where these have a value, and behind a declaration its local has one.
-use Rattle.std.proofs.Common.{◌≡◌, ℕ, ◌+◌, ◌==◌, ◌||◌, ◌&&◌, not, Bool, true, false, List, [], ◌∷◌, ◌++◌, length, map, Option, Some, None, Ok, Err, append_assoc, arith, refl, sym, ap, ◌∙◌, subst}
+use Rattle.std.proofs.Common.{◌≡◌, ℕ, ◌==◌, ◌&&◌, not, Bool, true, false, List, [], ◌∷◌, ◌++◌, length, map, Option, Some, None, Ok, Err, append_assoc, arith, refl, sym, ap, ◌∙◌, subst}
 use Rattle.std.specs.Prelude.{slice_get}
 use Rattle.std.proofs.lemmas.Bool.Decides.{nat_tests}
 use Rattle.std.proofs.lemmas.List.{append-nil}
@@ -35,7 +35,7 @@ use Rattle.rt_kept.specs.Named.{any_name, SeqNamed}
 use Rattle.rt_kept.proofs.Locals.{within_self, within_all, within_more}
 use Rattle.rt_scoped.proofs.Good.{Zeroed, found_labels, value_named}
 use Rattle.rt_scoped.proofs.Judged.{Around}
-use Rattle.rt_scoped.proofs.Seen.{Sees, IsSeen, sees_named, sees_more}
+use Rattle.rt_scoped.proofs.Seen.{Sees, sees_named, sees_more}
 use Rattle.rt_scoped.proofs.Sets.{Sets}
 
 left_of : (a b : Bool) → a && b ≡ true → a ≡ true

@@ -1,6 +1,5 @@
 -- Each procedure of a module in which no fault stands names locals where these have a value.
-use Rattle.std.proofs.Common.{◌≡◌, ℕ, zero, suc, ◌&&◌, true, List, [], ◌∷◌, ◌++◌, length, map, drop, replicate, Option, Some, None, refl, sym, ap, subst}
-use Rattle.std.specs.Prelude.{slice_get}
+use Rattle.std.proofs.Common.{◌≡◌, ℕ, zero, suc, ◌&&◌, true, List, [], ◌∷◌, ◌++◌, length, map, drop, replicate, Option, Some, None, sym, ap, subst}
 use Rattle.std.specs.List.{AllByRecursion}
 use Rattle.rt_bricks.specs.declared.tree.Declaration.{Declaration}
 use Rattle.rt_bricks.specs.declared.tree.Declaration.TheVariants as declares
@@ -14,10 +13,8 @@ use Rattle.rt_nodes.specs.declared.brick.Brick.{Brick}
 use Rattle.rt_nodes.specs.declared.brick.BrickSort.{BrickSort}
 use Rattle.rt_nodes.specs.declared.brick.BrickSort.TheVariants as brick_sort
 use Rattle.rt_nodes.specs.declared.brick.ProcBody.{ProcBody}
-use Rattle.rt_nodes.specs.Scopes.{Scope, scope_of, with_locals}
 use Rattle.rt_operands.specs.Names.{find}
 use Rattle.rt_pieces.specs.declared.item.Item.{Item}
-use Rattle.rt_typing.specs.Agreeing.{Agree}
 use Rattle.rt_written.specs.declared.site.Site.TheVariants as site
 use Rattle.rt_written.specs.Unfit.{unfit_record}
 use Rattle.rt_written.specs.Written.{Names}
@@ -58,7 +55,7 @@ use Rattle.rt_judged.proofs.Heads.{modes_of, heads_are}
 use Rattle.rt_judged.proofs.Holding.{nothing_in, no_brick_faults, all_declared, names_are_held}
 use Rattle.rt_judged.proofs.Known.{scope_once, scope_below}
 use Rattle.rt_judged.proofs.Levels.{SameModes, same_modes}
-use Rattle.rt_judged.proofs.Lists.{left_of, right_of, first_nothing, second_nothing, all_joined, all_get}
+use Rattle.rt_judged.proofs.Lists.{right_of, first_nothing, second_nothing, all_joined, all_get}
 use Rattle.rt_judged.proofs.Records.{record_count, modes_are_records, text_shallow, none_stands}
 use Rattle.rt_judged.proofs.Unfit.{mode_free}
 use Rattle.rt_judged.proofs.Whole.{NoneInside, none_inside, module_fits}

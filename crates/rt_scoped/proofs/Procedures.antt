@@ -1,12 +1,12 @@
 -- A procedure names locals where these have a value.
-use Rattle.std.proofs.Common.{◌≡◌, ℕ, suc, ◌+◌, ◌<◌, ◌≤◌, ◌||◌, ◌&&◌, not, Bool, true, false, List, [], ◌∷◌, ◌++◌, length, map, Option, Some, None, Ok, Err, option_map, arith, refl, sym, ap, ◌∙◌, subst}
+use Rattle.std.proofs.Common.{◌≡◌, ℕ, suc, ◌<◌, ◌≤◌, ◌||◌, ◌&&◌, not, Bool, true, false, List, [], ◌∷◌, ◌++◌, length, map, Option, Some, None, Ok, Err, option_map, arith, refl, sym, ap, ◌∙◌, subst}
 use Rattle.std.specs.Prelude.{nat_lt, slice_get}
 use Rattle.std.specs.List.{list_all}
 use Rattle.std.proofs.lemmas.Bool.Decides.{nat_tests}
 use Rattle.rt_grammar.specs.declared.at.At.{At}
 use Rattle.rt_grammar.specs.declared.at.Ident.{Ident}
 use Rattle.rt_expression.specs.declared.tree.WrittenMode.{WrittenMode}
-use Rattle.rt_modes.specs.declared.mode.Mode.{Mode, out-Mode}
+use Rattle.rt_modes.specs.declared.mode.Mode.{Mode}
 use Rattle.rt_bricks.specs.declared.tree.Fields.{Fields}
 use Rattle.rt_bricks.specs.declared.tree.ProcedureBrick.{ProcedureBrick}
 use Rattle.rt_nodes.specs.declared.brick.Local.{Local as Made}
@@ -21,10 +21,9 @@ use Rattle.rt_operands.specs.declared.scope.Meaning.{Meaning}
 use Rattle.rt_operands.specs.declared.scope.Meaning.TheVariants as meaning
 use Rattle.rt_operands.specs.Outcomes.{Outcome}
 use Rattle.rt_tree.specs.Modules.{local_stands}
-use Rattle.rt_tree.specs.Statements.{Sight as Seen, starts_at_zero, body_tree, closed}
-use Rattle.rt_tree.specs.Within.{tree_of}
+use Rattle.rt_tree.specs.Statements.{Sight as Seen, closed}
 use Rattle.rt_typing.specs.Agreeing.{IsThere}
-use Rattle.rt_work.specs.Task.{Item, Leave, from_label}
+use Rattle.rt_work.specs.Task.{Leave}
 use Rattle.rt_names.specs.declared.tally.Tally.{Tally}
 use Rattle.rt_names.specs.Parts.{noted_if, next_local, mode_or}
 use Rattle.rt_names.specs.Sights.{Names, Sight, holds, within, mode_in}
@@ -32,15 +31,12 @@ use Rattle.rt_statements.specs.declared.answer.Answer.{Answer}
 use Rattle.rt_statements.specs.Procedures.{named, group, parameters, answer_in, is_wanted, closed_at, nothing_yet, procedure, faults}
 use Rattle.rt_statements.specs.Statements as spec
 use Rattle.rt_accepted.specs.Held.{Holds, LabelSeen, LevelHolds, LevelsHold}
-use Rattle.rt_accepted.specs.Texts.{labels_in_body}
 use Rattle.rt_accepted.proofs.Accepted.{local_value}
 use Rattle.rt_accepted.proofs.Brick.{grow_parameters, grow_answer, parameters_fit}
-use Rattle.rt_accepted.proofs.Growing.{pre_same, Grew, grew_same, grew_then, Growing, grow_mode}
+use Rattle.rt_accepted.proofs.Growing.{pre_same, Grew, grew_same, grew_then, Growing}
 use Rattle.rt_accepted.proofs.Sequences.{one_longer, pre_length, pre_get, small_rest, Fine, fine_before}
-use Rattle.rt_within.specs.Modes.{ModesStand}
 use Rattle.rt_within.proofs.Locals.{noted_locals}
 use Rattle.rt_kept.specs.Trees.{Started, mode_of_local}
-use Rattle.rt_kept.specs.Named.{any_name, SeqNamed}
 use Rattle.rt_kept.specs.Systems.{is_plain, at_start, site_of}
 use Rattle.rt_kept.specs.Modules.{BodyNamed}
 use Rattle.rt_seen.specs.Laws.{ModesAreShort}
@@ -50,8 +46,7 @@ use Rattle.rt_scoped.proofs.Good.{Zeroed}
 use Rattle.rt_scoped.proofs.Judged.{Around, SeenLaws}
 use Rattle.rt_scoped.proofs.Locals.{mode_labels}
 use Rattle.rt_scoped.proofs.Seen.{MeaningSeen, IsSeen, LevelHas, LevelsHave, declared_has, Sees}
-use Rattle.rt_scoped.proofs.Sets.{Sets, SetsAt, sets_there, got_below, Made as Parted}
-use Rattle.rt_scoped.proofs.Standing.{StandsIn}
+use Rattle.rt_scoped.proofs.Sets.{Sets, SetsAt, sets_there, got_below}
 
 left_or : (a b : Bool) → a ≡ true → a || b ≡ true
 left_or true b e = refl

@@ -1,9 +1,9 @@
 -- Where a label stands in a plain tree, so that it leads somewhere.
-use Rattle.std.proofs.Common.{◌≡◌, ℕ, zero, suc, ◌+◌, ◌<◌, ◌≤◌, ◌==◌, Bool, true, false, List, [], ◌∷◌, Option, Some, None, arith, refl, sym, ap, ◌∙◌, subst}
+use Rattle.std.proofs.Common.{◌≡◌, ℕ, zero, suc, ◌+◌, ◌<◌, ◌≤◌, ◌==◌, Bool, true, false, List, [], ◌∷◌, Option, Some, None, arith, refl, ap, subst}
 use Rattle.std.proofs.lemmas.Bool.Decides.{nat_tests}
-use Rattle.rt_nodes.specs.Tree.{Term, Cond, Stmt, Inner, If, For, To, While, Seq, Done, Then, Mark}
+use Rattle.rt_nodes.specs.Tree.{Cond, Stmt, If, Seq, Then, Mark}
 use Rattle.rt_tree.specs.Statements.{marks}
-use Rattle.rt_work.specs.Task.{Item, Do, Again, TurnFor, TurnTo, or_else, here_or, from_label, from_inside}
+use Rattle.rt_work.specs.Task.{Item, Do, or_else, here_or, from_label, from_inside}
 
 -- whatever is to be done behind the sequence
 abbrev pub StandsIn : Seq → ℕ → Type 0
