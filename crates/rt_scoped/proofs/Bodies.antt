@@ -1,6 +1,5 @@
 -- A body names locals where these have a value, whatever stands in it.
 use Rattle.std.proofs.Common.{◌≡◌, ℕ, ◌+◌, ◌&&◌, Bool, true, false, List, [], ◌∷◌, length, map, Option, Some, None, refl, sym, ◌∙◌, subst}
-use Rattle.std.specs.Prelude.{nat_lt}
 use Rattle.rt_grammar.specs.declared.at.Ident.{Ident}
 use Rattle.rt_syntax.specs.declared.tree.Body.{Body, out-Body, roll-Body, map-Body}
 use Rattle.rt_syntax.specs.declared.tree.Body as body_lemmas
@@ -13,11 +12,10 @@ use Rattle.rt_syntax.specs.declared.tree.Simple.TheOpen.{Simple-F, Body-F, Branc
 use Rattle.rt_syntax.specs.declared.tree.Stmt.{Stmt, out-Stmt, roll-Stmt, map-Stmt}
 use Rattle.rt_syntax.specs.declared.tree.Stmt as stmt_lemmas
 use Rattle.rt_nodes.specs.Scopes.{Scope}
-use Rattle.rt_typing.specs.Laws.{joins_two}
 use Rattle.rt_statements.specs.declared.answer.Answer.{Answer}
 use Rattle.rt_statements.specs.Statements as spec
 use Rattle.rt_statements.specs.Statements.{Line, JudgedStat, JudgedBody, JudgedBranch}
-use Rattle.rt_accepted.specs.Texts.{sum, simple_labels, simple_stands, all, labels_in_simple, labels_in_body, labels_in_branch, labels_in_line, simple_is_broad, body_is_broad, branch_is_broad, line_is_broad}
+use Rattle.rt_accepted.specs.Texts.{sum, simple_labels, all, labels_in_simple, labels_in_body, labels_in_branch, labels_in_line}
 use Rattle.rt_accepted.proofs.Growing.{grew_same, grew_then}
 use Rattle.rt_derived.specs.Numbers.{words_in_expr, words_in_cond, words_in_locals, words_in_control, simple_words, words_in_simple, words_in_body, words_in_branch, words_in_statement}
 use Rattle.rt_scoped.proofs.Good.{StatGood, call_good, assign_good, assign_val_good, return_good, goto_good, switch_good}
@@ -49,16 +47,16 @@ module _ (c : Scope) (a : Around c) where
 
   module _ (r : Answer) where
     abbrev SimpleM : Simple → Type 0
-    SimpleM x = simple_is_broad x ≡ true → words_in_simple x ≡ true → StatGood c a (spec.stat r x) (labels_in_simple x)
+    SimpleM x = words_in_simple x ≡ true → StatGood c a (spec.stat r x) (labels_in_simple x)
 
     abbrev BodyM : Body → Type 0
-    BodyM x = body_is_broad x ≡ true → words_in_body x ≡ true → BodyGood c a (spec.body r x) (labels_in_body x)
+    BodyM x = words_in_body x ≡ true → BodyGood c a (spec.body r x) (labels_in_body x)
 
     abbrev BranchM : Branch → Type 0
-    BranchM x = branch_is_broad x ≡ true → words_in_branch x ≡ true → BranchGood c a (spec.branch r x) (labels_in_branch x)
+    BranchM x = words_in_branch x ≡ true → BranchGood c a (spec.branch r x) (labels_in_branch x)
 
     abbrev LineM : Stmt → Type 0
-    LineM x = line_is_broad x ≡ true → words_in_statement x ≡ true → LineGood c (spec.line r x) (labels_in_line x)
+    LineM x = words_in_statement x ≡ true → LineGood c (spec.line r x) (labels_in_line x)
 
     abbrev SimplePair : Type 0
     SimplePair = (x : Simple) × SimpleM x
@@ -82,10 +80,6 @@ module _ (c : Scope) (a : Around c) where
         → labels_in_simple x ≡ simple_labels (map-Simple Simple Body Branch Stmt ℕ ℕ ℕ ℕ labels_in_simple labels_in_body labels_in_branch labels_in_line l)
     count_at x l o = rw (fold_out-Simple, o) refl
 
-    broad_at : (x : Simple) (l : Simple-F Simple Body Branch Stmt) → out-Simple x ≡ l → simple_is_broad x ≡ true
-        → simple_stands (map-Simple Simple Body Branch Stmt Bool Bool Bool Bool simple_is_broad body_is_broad branch_is_broad line_is_broad l) ≡ true
-    broad_at x l o b = let is : simple_is_broad x ≡ simple_stands (map-Simple Simple Body Branch Stmt Bool Bool Bool Bool simple_is_broad body_is_broad branch_is_broad line_is_broad l) = rw (fold_out-Simple, o) refl in sym is ∙ b
-
     words_at : (x : Simple) (l : Simple-F Simple Body Branch Stmt) → out-Simple x ≡ l → words_in_simple x ≡ true
         → simple_words (map-Simple Simple Body Branch Stmt Bool Bool Bool Bool words_in_simple words_in_body words_in_branch words_in_statement l) ≡ true
     words_at x l o w = let is : words_in_simple x ≡ simple_words (map-Simple Simple Body Branch Stmt Bool Bool Bool Bool words_in_simple words_in_body words_in_branch words_in_statement l) = rw (fold_out-Simple, o) refl in sym is ∙ w
@@ -96,102 +90,84 @@ module _ (c : Scope) (a : Around c) where
     abbrev branches_of : List BranchPair → List Branch
     branches_of ys = map (λ (e : BranchPair). e.0) ys
 
-    all_lines : (ys : List LinePair) → all (map line_is_broad (lines_of ys)) ≡ true → all (map words_in_statement (lines_of ys)) ≡ true → AllGood c (map (spec.line r) (lines_of ys)) (map labels_in_line (lines_of ys))
-    all_lines [] b w = tt
-    all_lines (y ∷ ys) b w =
-        let rest : Bool = all (map line_is_broad (lines_of ys)) in
+    all_lines : (ys : List LinePair) → all (map words_in_statement (lines_of ys)) ≡ true → AllGood c (map (spec.line r) (lines_of ys)) (map labels_in_line (lines_of ys))
+    all_lines [] w = tt
+    all_lines (y ∷ ys) w =
         let others : Bool = all (map words_in_statement (lines_of ys)) in
-        (y.1 (left_of (line_is_broad y.0) rest b) (left_of (words_in_statement y.0) others w), all_lines ys (right_of (line_is_broad y.0) rest b) (right_of (words_in_statement y.0) others w))
+        (y.1 (left_of (words_in_statement y.0) others w), all_lines ys (right_of (words_in_statement y.0) others w))
 
-    all_branches : (ys : List BranchPair) → all (map branch_is_broad (branches_of ys)) ≡ true → all (map words_in_branch (branches_of ys)) ≡ true
-        → BranchesGood c a (map (spec.branch r) (branches_of ys)) (map labels_in_branch (branches_of ys))
-    all_branches [] b w = tt
-    all_branches (y ∷ ys) b w =
-        let rest : Bool = all (map branch_is_broad (branches_of ys)) in
+    all_branches : (ys : List BranchPair) → all (map words_in_branch (branches_of ys)) ≡ true → BranchesGood c a (map (spec.branch r) (branches_of ys)) (map labels_in_branch (branches_of ys))
+    all_branches [] w = tt
+    all_branches (y ∷ ys) w =
         let others : Bool = all (map words_in_branch (branches_of ys)) in
-        (y.1 (left_of (branch_is_broad y.0) rest b) (left_of (words_in_branch y.0) others w), all_branches ys (right_of (branch_is_broad y.0) rest b) (right_of (words_in_branch y.0) others w))
+        (y.1 (left_of (words_in_branch y.0) others w), all_branches ys (right_of (words_in_branch y.0) others w))
 
     -- ---- statements
 
     simple_level : (x : Simple) (y : Simple-F SimplePair BodyPair BranchPair LinePair)
         → out-Simple x ≡ map-Simple SimplePair BodyPair BranchPair LinePair Simple Body Branch Stmt (λ e. e.0) (λ e. e.0) (λ e. e.0) (λ e. e.0) y → SimpleM x
-    simple_level x (Simple-F.Call h) o b w = as_stat (stat_at x (Simple-F.Call h) o) (count_at x (Simple-F.Call h) o) (call_good c a h (words_at x (Simple-F.Call h) o w))
-    simple_level x (Simple-F.Assign h e at) o b w = as_stat (stat_at x (Simple-F.Assign h e at) o) (count_at x (Simple-F.Assign h e at) o) (assign_good c a h e (words_at x (Simple-F.Assign h e at) o w))
-    simple_level x (Simple-F.AssignVal h e at) o b w = as_stat (stat_at x (Simple-F.AssignVal h e at) o) (count_at x (Simple-F.AssignVal h e at) o) (assign_val_good c a at h e (words_at x (Simple-F.AssignVal h e at) o w))
-    simple_level x (Simple-F.Goto n at) o b w = as_stat (stat_at x (Simple-F.Goto n at) o) (count_at x (Simple-F.Goto n at) o) (goto_good c a n)
-    simple_level x (Simple-F.Return e at) o b w = as_stat (stat_at x (Simple-F.Return e at) o) (count_at x (Simple-F.Return e at) o) (return_good c a r e at (words_at x (Simple-F.Return e at) o w))
-    simple_level x (Simple-F.Switch e ns at) o b w = as_stat (stat_at x (Simple-F.Switch e ns at) o) (count_at x (Simple-F.Switch e ns at) o) (switch_good c a e ns (words_at x (Simple-F.Switch e ns at) o w))
-    simple_level x (Simple-F.Block p at) o b w =
-        as_stat (stat_at x (Simple-F.Block p.0 at) o) (count_at x (Simple-F.Block p.0 at) o) (block_good c a r (spec.body r p.0) (labels_in_body p.0) at (p.1 (broad_at x (Simple-F.Block p.0 at) o b) (words_at x (Simple-F.Block p.0 at) o w)))
-    simple_level x (Simple-F.If ys None at) o b w =
+    simple_level x (Simple-F.Call h) o w = as_stat (stat_at x (Simple-F.Call h) o) (count_at x (Simple-F.Call h) o) (call_good c a h (words_at x (Simple-F.Call h) o w))
+    simple_level x (Simple-F.Assign h e at) o w = as_stat (stat_at x (Simple-F.Assign h e at) o) (count_at x (Simple-F.Assign h e at) o) (assign_good c a h e (words_at x (Simple-F.Assign h e at) o w))
+    simple_level x (Simple-F.AssignVal h e at) o w = as_stat (stat_at x (Simple-F.AssignVal h e at) o) (count_at x (Simple-F.AssignVal h e at) o) (assign_val_good c a at h e (words_at x (Simple-F.AssignVal h e at) o w))
+    simple_level x (Simple-F.Goto n at) o w = as_stat (stat_at x (Simple-F.Goto n at) o) (count_at x (Simple-F.Goto n at) o) (goto_good c a n)
+    simple_level x (Simple-F.Return e at) o w = as_stat (stat_at x (Simple-F.Return e at) o) (count_at x (Simple-F.Return e at) o) (return_good c a r e at (words_at x (Simple-F.Return e at) o w))
+    simple_level x (Simple-F.Switch e ns at) o w = as_stat (stat_at x (Simple-F.Switch e ns at) o) (count_at x (Simple-F.Switch e ns at) o) (switch_good c a e ns (words_at x (Simple-F.Switch e ns at) o w))
+    simple_level x (Simple-F.Block p at) o w =
+        as_stat (stat_at x (Simple-F.Block p.0 at) o) (count_at x (Simple-F.Block p.0 at) o) (block_good c a r (spec.body r p.0) (labels_in_body p.0) at (p.1 (words_at x (Simple-F.Block p.0 at) o w)))
+    simple_level x (Simple-F.If ys None at) o w =
         let bs : List Branch = branches_of ys in
-        let all_broad : Bool = all (map branch_is_broad bs) in
-        let h = broad_at x (Simple-F.If bs None at) o b in
         let v = words_at x (Simple-F.If bs None at) o w in
-        let z = all_branches ys (left_of all_broad true (right_of (nat_lt 0 (length (map branch_is_broad bs))) (all_broad && true) h)) (left_of (all (map words_in_branch bs)) true v) in
-        as_stat (stat_at x (Simple-F.If bs None at) o) (count_at x (Simple-F.If bs None at) o) (if_good c a r (map (spec.branch r) bs) (map labels_in_branch bs) at z)
-    simple_level x (Simple-F.If ys (Some xs) at) o b w =
+        as_stat (stat_at x (Simple-F.If bs None at) o) (count_at x (Simple-F.If bs None at) o) (if_good c a r (map (spec.branch r) bs) (map labels_in_branch bs) at (all_branches ys (left_of (all (map words_in_branch bs)) true v)))
+    simple_level x (Simple-F.If ys (Some xs) at) o w =
         let bs : List Branch = branches_of ys in
         let es : List Stmt = lines_of xs in
-        let all_broad : Bool = all (map branch_is_broad bs) in
-        let else_broad : Bool = all (map line_is_broad es) in
-        let h = broad_at x (Simple-F.If bs (Some es) at) o b in
-        let g = right_of (nat_lt 0 (length (map branch_is_broad bs))) (all_broad && else_broad) h in
         let v = words_at x (Simple-F.If bs (Some es) at) o w in
         let all_words : Bool = all (map words_in_branch bs) in
         let else_words : Bool = all (map words_in_statement es) in
         as_stat (stat_at x (Simple-F.If bs (Some es) at) o) (count_at x (Simple-F.If bs (Some es) at) o)
-        (else_good c a r (map (spec.branch r) bs) (map labels_in_branch bs) (map (spec.line r) es) (map labels_in_line es) at (all_branches ys (left_of all_broad else_broad g) (left_of all_words else_words v))
-        (all_lines xs (right_of all_broad else_broad g) (right_of all_words else_words v)))
-    simple_level x (Simple-F.For None limit xs at) o b w =
+        (else_good c a r (map (spec.branch r) bs) (map labels_in_branch bs) (map (spec.line r) es) (map labels_in_line es) at (all_branches ys (left_of all_words else_words v)) (all_lines xs (right_of all_words else_words v)))
+    simple_level x (Simple-F.For None limit xs at) o w =
         let es : List Stmt = lines_of xs in
         let v = words_at x (Simple-F.For None limit es at) o w in
         let all_words : Bool = all (map words_in_statement es) in
         as_stat (stat_at x (Simple-F.For None limit es at) o) (count_at x (Simple-F.For None limit es at) o)
-        (to_good c a limit (map (spec.line r) es) (map labels_in_line es) (left_of (words_in_expr limit) all_words v) (all_lines xs (broad_at x (Simple-F.For None limit es at) o b) (right_of (words_in_expr limit) all_words v)))
-    simple_level x (Simple-F.For (Some d) limit xs at) o b w =
+        (to_good c a limit (map (spec.line r) es) (map labels_in_line es) (left_of (words_in_expr limit) all_words v) (all_lines xs (right_of (words_in_expr limit) all_words v)))
+    simple_level x (Simple-F.For (Some d) limit xs at) o w =
         let es : List Stmt = lines_of xs in
         let v = words_at x (Simple-F.For (Some d) limit es at) o w in
         let all_words : Bool = all (map words_in_statement es) in
         let rest = right_of (words_in_control (Some d)) (words_in_expr limit && all_words) v in
         as_stat (stat_at x (Simple-F.For (Some d) limit es at) o) (count_at x (Simple-F.For (Some d) limit es at) o)
-        (for_good c a d limit (map (spec.line r) es) (map labels_in_line es) (left_of (words_in_control (Some d)) (words_in_expr limit && all_words) v) (left_of (words_in_expr limit) all_words rest)
-        (all_lines xs (broad_at x (Simple-F.For (Some d) limit es at) o b) (right_of (words_in_expr limit) all_words rest)))
-    simple_level x (Simple-F.While d xs at) o b w =
+        (for_good c a d limit (map (spec.line r) es) (map labels_in_line es) (left_of (words_in_control (Some d)) (words_in_expr limit && all_words) v) (left_of (words_in_expr limit) all_words rest) (all_lines xs (right_of (words_in_expr limit) all_words rest)))
+    simple_level x (Simple-F.While d xs at) o w =
         let es : List Stmt = lines_of xs in
-        let all_broad : Bool = all (map line_is_broad es) in
-        let all_words : Bool = all (map words_in_statement es) in
-        let h = broad_at x (Simple-F.While d es at) o b in
         let v = words_at x (Simple-F.While d es at) o w in
+        let all_words : Bool = all (map words_in_statement es) in
         as_stat (stat_at x (Simple-F.While d es at) o) (count_at x (Simple-F.While d es at) o)
-        (while_good c a r d (map (spec.line r) es) (map labels_in_line es) at (left_of (words_in_cond d) all_words v) (left_of (joins_two d) all_broad h) (all_lines xs (right_of (joins_two d) all_broad h) (right_of (words_in_cond d) all_words v)))
+        (while_good c a r d (map (spec.line r) es) (map labels_in_line es) at (left_of (words_in_cond d) all_words v) (all_lines xs (right_of (words_in_cond d) all_words v)))
 
     body_level : (x : Body) (y : Body-F SimplePair BodyPair BranchPair LinePair)
         → out-Body x ≡ map-Body SimplePair BodyPair BranchPair LinePair Simple Body Branch Stmt (λ e. e.0) (λ e. e.0) (λ e. e.0) (λ e. e.0) y → BodyM x
-    body_level x y o b w =
+    body_level x y o w =
         let es : List Stmt = lines_of y.statements in
         let part : spec.body r x ≡ spec.one_body r (record { locals = y.locals; statements = map (spec.line r) es; at = y.at }) = rw (fold_out-Body, o) refl in
         let count : labels_in_body x ≡ sum (map labels_in_line es) = rw (fold_out-Body, o) refl in
-        let broad : body_is_broad x ≡ all (map line_is_broad es) = rw (fold_out-Body, o) refl in
         let words : words_in_body x ≡ all (map words_in_locals y.locals) && all (map words_in_statement es) = rw (fold_out-Body, o) refl in
         let v = sym words ∙ w in
         let declared : Bool = all (map words_in_locals y.locals) in
         let others : Bool = all (map words_in_statement es) in
-        as_body part count (body_good c a r y.locals (map (spec.line r) es) (map labels_in_line es) y.at (left_of declared others v) (all_lines y.statements (sym broad ∙ b) (right_of declared others v)))
+        as_body part count (body_good c a r y.locals (map (spec.line r) es) (map labels_in_line es) y.at (left_of declared others v) (all_lines y.statements (right_of declared others v)))
 
     branch_level : (x : Branch) (y : Branch-F SimplePair BodyPair BranchPair LinePair)
         → out-Branch x ≡ map-Branch SimplePair BodyPair BranchPair LinePair Simple Body Branch Stmt (λ e. e.0) (λ e. e.0) (λ e. e.0) (λ e. e.0) y → BranchM x
-    branch_level x y o b w =
+    branch_level x y o w =
         let es : List Stmt = lines_of y.taken in
         let part : spec.branch r x ≡ spec.one_branch r (record { test = y.test; taken = map (spec.line r) es; at = y.at }) = rw (fold_out-Branch, o) refl in
         let count : labels_in_branch x ≡ sum (map labels_in_line es) = rw (fold_out-Branch, o) refl in
-        let broad : branch_is_broad x ≡ joins_two y.test && all (map line_is_broad es) = rw (fold_out-Branch, o) refl in
         let words : words_in_branch x ≡ words_in_cond y.test && all (map words_in_statement es) = rw (fold_out-Branch, o) refl in
-        let h = sym broad ∙ b in
         let v = sym words ∙ w in
-        let all_broad : Bool = all (map line_is_broad es) in
         let all_words : Bool = all (map words_in_statement es) in
-        as_branch part count (branch_good c a r y.test (map (spec.line r) es) (map labels_in_line es) y.at (left_of (words_in_cond y.test) all_words v) (left_of (joins_two y.test) all_broad h) (all_lines y.taken (right_of (joins_two y.test) all_broad h) (right_of (words_in_cond y.test) all_words v)))
+        as_branch part count (branch_good c a r y.test (map (spec.line r) es) (map labels_in_line es) y.at (left_of (words_in_cond y.test) all_words v) (all_lines y.taken (right_of (words_in_cond y.test) all_words v)))
 
     -- an empty statement
     empty_line : (ls : List Ident) → LineGood c (record { labels = ls; part = spec.any_stat r None }) (length ls + 0)
@@ -202,16 +178,15 @@ module _ (c : Scope) (a : Around c) where
 
     line_cases : (x : Stmt) (y : Stmt-F SimplePair BodyPair BranchPair LinePair) (z : Option SimplePair) → y.simple ≡ z
         → out-Stmt x ≡ map-Stmt SimplePair BodyPair BranchPair LinePair Simple Body Branch Stmt (λ e. e.0) (λ e. e.0) (λ e. e.0) (λ e. e.0) y → LineM x
-    line_cases x y None e o b w =
+    line_cases x y None e o w =
         let part : spec.line r x ≡ record { labels = y.labels; part = spec.any_stat r None } = rw (fold_out-Stmt, o, e) refl in
         let count : labels_in_line x ≡ length y.labels + 0 = rw (fold_out-Stmt, o, e) refl in
         as_line part count (empty_line y.labels)
-    line_cases x y (Some p) e o b w =
+    line_cases x y (Some p) e o w =
         let part : spec.line r x ≡ record { labels = y.labels; part = spec.any_stat r (Some (spec.stat r p.0)) } = rw (fold_out-Stmt, o, e) refl in
         let count : labels_in_line x ≡ length y.labels + labels_in_simple p.0 = rw (fold_out-Stmt, o, e) refl in
-        let broad : line_is_broad x ≡ simple_is_broad p.0 = rw (fold_out-Stmt, o, e) refl in
         let words : words_in_statement x ≡ words_in_simple p.0 = rw (fold_out-Stmt, o, e) refl in
-        as_line part count (full_line y.labels (spec.stat r p.0) (labels_in_simple p.0) (p.1 (sym broad ∙ b) (sym words ∙ w)))
+        as_line part count (full_line y.labels (spec.stat r p.0) (labels_in_simple p.0) (p.1 (sym words ∙ w)))
 
     line_level : (x : Stmt) (y : Stmt-F SimplePair BodyPair BranchPair LinePair)
         → out-Stmt x ≡ map-Stmt SimplePair BodyPair BranchPair LinePair Simple Body Branch Stmt (λ e. e.0) (λ e. e.0) (λ e. e.0) (λ e. e.0) y → LineM x
@@ -229,6 +204,6 @@ module _ (c : Scope) (a : Around c) where
     rolled_line : (x : Stmt-F Simple Body Branch Stmt) → out-Stmt (roll-Stmt x) ≡ x
     rolled_line x = search stmt_lemmas.the_lemmas
 
-    pub body_made : (x : Body) → body_is_broad x ≡ true → words_in_body x ≡ true → BodyGood c a (spec.body r x) (labels_in_body x)
+    pub body_made : (x : Body) → words_in_body x ≡ true → BodyGood c a (spec.body r x) (labels_in_body x)
     body_made = ind-Body SimpleM BodyM BranchM LineM (λ x y is. simple_level (roll-Simple x) y (rolled_simple x ∙ sym is)) (λ x y is. body_level (roll-Body x) y (rolled_body x ∙ sym is))
         (λ x y is. branch_level (roll-Branch x) y (rolled_branch x ∙ sym is)) (λ x y is. line_level (roll-Stmt x) y (rolled_line x ∙ sym is))

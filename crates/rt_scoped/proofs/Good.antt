@@ -31,7 +31,6 @@ use Rattle.rt_operands.specs.declared.fault.CheckFault.TheVariants as fault
 use Rattle.rt_operands.specs.Names.{find}
 use Rattle.rt_exprs.specs.Judging.{alone, target, val_target}
 use Rattle.rt_tree.specs.Statements.{starts_at_zero, call_tree, assigned_tree, step_tree, tested}
-use Rattle.rt_typing.specs.Laws.{joins_two}
 use Rattle.rt_names.specs.declared.tally.Tally.{Tally}
 use Rattle.rt_names.specs.Parts.{found_or, value_or, stat_or, test_or, label_or, labels_in}
 use Rattle.rt_names.specs.Sights.{Sight, scope_of, value_in, assignment_in, val_assignment_in, call_in, test_in, label_in, label_by}
@@ -229,9 +228,9 @@ module _ (c : Scope) (a : Around c) where
   no_test : (v : Started) → CondNamed any_name v (tested c (tests.Compare rel.Equal (values.Number 0) (values.Number 0))).tree
   no_test v = subst (CondNamed any_name v) (sym (tree_compare c rel.Equal (values.Number 0) (values.Number 0))) (number_named v, number_named v)
 
-  pub test_named : (at : Sets) (v : Started) (s : Sight) → Sees at c v s → (d : Cond) → words_in_cond d ≡ true → joins_two d ≡ true → (t : Tally) → CondNamed any_name v (tested c (test_or (test_in s d) t).0).tree
-  test_named at v s k d w j t =
-      found_is (λ x. CondNamed any_name v (tested c x).tree) (tests.Compare rel.Equal (values.Number 0) (values.Number 0)) (test_in s d) t (no_test v) (λ x h. test_judged c a at v s k d x w j h)
+  pub test_named : (at : Sets) (v : Started) (s : Sight) → Sees at c v s → (d : Cond) → words_in_cond d ≡ true → (t : Tally) → CondNamed any_name v (tested c (test_or (test_in s d) t).0).tree
+  test_named at v s k d w t =
+      found_is (λ x. CondNamed any_name v (tested c x).tree) (tests.Compare rel.Equal (values.Number 0) (values.Number 0)) (test_in s d) t (no_test v) (λ x h. test_judged c a at v s k d x w h)
 
   pub test_labels : (s : Sight) (d : Cond) (t : Tally) → (test_or (test_in s d) t).1.labels ≡ t.labels
   test_labels s d t = found_labels (tests.Compare rel.Equal (values.Number 0) (values.Number 0)) (test_in s d) t

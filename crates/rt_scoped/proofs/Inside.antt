@@ -23,7 +23,6 @@ use Rattle.rt_nodes.specs.Scopes.{Scope}
 use Rattle.rt_nodes.specs.Tree.{Cond, Stmt, If, Seq, Done}
 use Rattle.rt_operands.specs.declared.scope.Meaning.TheVariants as meaning
 use Rattle.rt_tree.specs.Statements.{starts_at_zero, start_tree, starts_tree, branches_tree, if_tree, body_tree}
-use Rattle.rt_typing.specs.Laws.{joins_two}
 use Rattle.rt_work.specs.Task.{Again, TurnFor, TurnTo}
 use Rattle.rt_names.specs.declared.tally.Tally.{Tally}
 use Rattle.rt_names.specs.Parts.{next_local, three_locals, test_or}
@@ -106,15 +105,15 @@ module _ (c : Scope) (a : Around c) where
 
   -- ---- WHILE
 
-  pub while_good : (r : Answer) (d : Written) (xs : List Line) (ns : List ℕ) (place : At) → words_in_cond d ≡ true → joins_two d ≡ true → AllGood c xs ns → StatGood c a (λ s. spec.one_stat r (Simple-F.While d xs place) s) (sum ns)
-  while_good r d xs ns place w j h = record {
+  pub while_good : (r : Answer) (d : Written) (xs : List Line) (ns : List ℕ) (place : At) → words_in_cond d ≡ true → AllGood c xs ns → StatGood c a (λ s. spec.one_stat r (Simple-F.While d xs place) s) (sum ns)
+  while_good r d xs ns place w h = record {
     grows = λ s t. grew_then (grow_found _ (test_in s d) t) (grew_then (grow_sequence s xs (all_grow c xs ns h) _) (grew_same _));
     made = λ s t v f b z.
         let u : Test × Tally = test_or (test_in s d) t in
         let same = test_labels c a s d t in
         let go = sequence_made c xs ns h s u.1 v f (omega (arith, b, same)) z in
         as_tree {v = v} {s = s} (made_while c u.0 (sequence s xs u.1).0)
-        (made_as t.labels _ (sum ns) (made_from u.1.labels t.labels _ (sum ns) same go) (λ l k rest. k (Again _ _ ∷ rest)) (λ at k e. (test_named c a at v s e d w j t, k e)));
+        (made_as t.labels _ (sum ns) (made_from u.1.labels t.labels _ (sum ns) same go) (λ l k rest. k (Again _ _ ∷ rest)) (λ at k e. (test_named c a at v s e d w t, k e)));
   }
 
   -- ---- TO and FOR
@@ -165,15 +164,15 @@ module _ (c : Scope) (a : Around c) where
 
   -- ---- IF
 
-  pub branch_good : (r : Answer) (d : Written) (xs : List Line) (ns : List ℕ) (place : At) → words_in_cond d ≡ true → joins_two d ≡ true → AllGood c xs ns → BranchGood (λ s. spec.one_branch r (record { test = d; taken = xs; at = place }) s) (sum ns)
-  branch_good r d xs ns place w j h = record {
+  pub branch_good : (r : Answer) (d : Written) (xs : List Line) (ns : List ℕ) (place : At) → words_in_cond d ≡ true → AllGood c xs ns → BranchGood (λ s. spec.one_branch r (record { test = d; taken = xs; at = place }) s) (sum ns)
+  branch_good r d xs ns place w h = record {
     grows = λ s t. grew_then (grow_found _ (test_in s d) t) (grew_then (grow_sequence s xs (all_grow c xs ns h) _) (grew_same _));
     made = λ s t v f b z.
         let u : Test × Tally = test_or (test_in s d) t in
         let same = test_labels c a s d t in
         let go = sequence_made c xs ns h s u.1 v f (omega (arith, b, same)) z in
         subst (λ (b : Cond × Seq). Parted t.labels (sequence s xs u.1).1.labels (sum ns) (StandsIn b.1) (λ at. Sees at c v s → BranchNamed at v b)) (sym (made_branch c u.0 (sequence s xs u.1).0))
-        (made_as t.labels _ (sum ns) (made_from u.1.labels t.labels _ (sum ns) same go) (λ l k. k) (λ at k e. (test_named c a at v s e d w j t, k e)));
+        (made_as t.labels _ (sum ns) (made_from u.1.labels t.labels _ (sum ns) same go) (λ l k. k) (λ at k e. (test_named c a at v s e d w t, k e)));
   }
 
   abbrev pub BranchesGood : List JudgedBranch → List ℕ → Type 0

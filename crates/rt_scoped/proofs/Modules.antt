@@ -60,16 +60,14 @@ use Rattle.rt_judged.proofs.Records.{record_count, modes_are_records, text_shall
 use Rattle.rt_judged.proofs.Unfit.{mode_free}
 use Rattle.rt_judged.proofs.Whole.{NoneInside, none_inside, module_fits}
 use Rattle.rt_kept.specs.Modules.{BodyNamed}
-use Rattle.rt_seen.specs.Laws.{ModesAreShort}
 use Rattle.rt_scoped.specs.Laws.{ModulesAreNamed}
-use Rattle.rt_scoped.proofs.Judged.{SeenLaws}
 use Rattle.rt_scoped.proofs.Procedures.{procedures_named}
 
 -- the modes of a PROC
 same_modes_of : (ms ws : List Mode) (r o : Option Mode) (l : Mode-F Mode) → l ≡ Mode-F.Proc ms r → l ≡ Mode-F.Proc ws o → (ms ≡ ws) × (r ≡ o)
 same_modes_of ms ws r o l e h = let a : ms ≡ ws = cc in let b : r ≡ o = cc in (a, b)
 
-module _ (laws : SeenLaws) (shortness : ModesAreShort) (items : List Item) (m : Module) (us : Faults) (text : IsText items m) (fine : IsFaultless m.declarations us) where
+module _ (items : List Item) (m : Module) (us : Faults) (text : IsText items m) (fine : IsFaultless m.declarations us) where
   abbrev ds : List Declaration
   ds = m.declarations
 
@@ -128,12 +126,12 @@ module _ (laws : SeenLaws) (shortness : ModesAreShort) (items : List Item) (m : 
         few = few_locals s q (record { broad = k.broad; parts = k.items_are.0; few = k.items_are.1 });
         standing = locals_stand n s q k.shallow name_records;
       } in
-      let sound = record { broad = k.broad; words = right_of (words_in_result q.result) (words_in_body q.body) (right_of fields_words (words_in_result q.result && words_in_body q.body) k.words); labels = k.labels } in
+      let sound = record { words = right_of (words_in_result q.result) (words_in_body q.body) (right_of fields_words (words_in_result q.result && words_in_body q.body) k.words); labels = k.labels } in
       let heads = heads_are names s same free [] q.fields nothing_yet (first_nothing (mode_faults names site.Variable q.fields) (result_faults names q.name q.result) k.none) in
       let none : faults s q ≡ [] = nothing_in (faults s q) k.fits in
       subst (λ (b : ProcBody). BodyNamed (tree m us) b ws o) is_body
       (subst (λ (y : List Mode). BodyNamed (tree m us) (procedure s q) y o) same_so.0
-      (subst (λ (y : Option Mode). BodyNamed (tree m us) (procedure s q) ms y) same_so.1 (procedures_named laws shortness (tree m us) s q ms z.result sound held none heads)))
+      (subst (λ (y : Option Mode). BodyNamed (tree m us) (procedure s q) ms y) same_so.1 (procedures_named (tree m us) s q ms z.result sound held none heads)))
 
   no_body : (x : Sort) → SortNamed (sort_by x nothing)
   no_body (sort.Procedure (given.Mode y)) w body ws o e h = absurd cc
@@ -186,6 +184,6 @@ module _ (laws : SeenLaws) (shortness : ModesAreShort) (items : List Item) (m : 
       (numbers_are_words items m text.range text.derived)
       (none_inside (records ds) s names ds (λ g k. fine.none g (inside (subst (λ (hs : List Heading). Somewhere (Inside s (records ds) g) hs ds) (sym declared_is) k))))))
 
-pub modules_named : SeenLaws → ModesAreShort → ModulesAreNamed
-modules_named laws shortness items m us text fine k d e here w body ws o is h =
-    all_get (BrickNamed laws shortness items m us text fine) (tree m us).bricks k d (bricks_named laws shortness items m us text fine) e w body ws o is h
+pub modules_named : ModulesAreNamed
+modules_named items m us text fine k d e here w body ws o is h =
+    all_get (BrickNamed items m us text fine) (tree m us).bricks k d (bricks_named items m us text fine) e w body ws o is h

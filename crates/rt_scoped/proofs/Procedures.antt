@@ -39,11 +39,11 @@ use Rattle.rt_within.proofs.Locals.{noted_locals}
 use Rattle.rt_kept.specs.Trees.{Started, mode_of_local}
 use Rattle.rt_kept.specs.Systems.{is_plain, at_start, site_of}
 use Rattle.rt_kept.specs.Modules.{BodyNamed}
-use Rattle.rt_seen.specs.Laws.{ModesAreShort}
+use Rattle.rt_seen.proofs.Modes.{all_short}
 use Rattle.rt_scoped.specs.Laws.{IsSound, IsHeld, HasParameters, ProceduresAreNamed}
 use Rattle.rt_scoped.proofs.Bodies.{body_made}
 use Rattle.rt_scoped.proofs.Good.{Zeroed}
-use Rattle.rt_scoped.proofs.Judged.{Around, SeenLaws}
+use Rattle.rt_scoped.proofs.Judged.{Around}
 use Rattle.rt_scoped.proofs.Locals.{mode_labels}
 use Rattle.rt_scoped.proofs.Seen.{MeaningSeen, IsSeen, LevelHas, LevelsHave, declared_has, Sees}
 use Rattle.rt_scoped.proofs.Sets.{Sets, SetsAt, sets_there, got_below}
@@ -136,7 +136,7 @@ module _ (at : Sets) (c : Scope) (v : Started) (seen : Seen) where
 
 -- ---- the whole
 
-module _ (laws : SeenLaws) (shortness : ModesAreShort) (p : ModuleParts) (s : Sight) (b : ProcedureBrick) (ms : List Mode) (r : Option Mode) (sound : IsSound b) (held : IsHeld p s b) (none : faults s b ≡ []) (given : HasParameters s b ms) where
+module _ (p : ModuleParts) (s : Sight) (b : ProcedureBrick) (ms : List Mode) (r : Option Mode) (sound : IsSound b) (held : IsHeld p s b) (none : faults s b ≡ []) (given : HasParameters s b ms) where
   abbrev heads : Names × Tally
   heads = parameters s [] b.fields nothing_yet
 
@@ -163,8 +163,7 @@ module _ (laws : SeenLaws) (shortness : ModesAreShort) (p : ModuleParts) (s : Si
   around = record {
     small = held.few;
     standing = held.standing;
-    short = shortness inner (record { records = held.modes.records; bricks = held.modes.bricks; errors = held.modes.errors; streams = held.modes.streams }) held.standing;
-    laws = laws;
+    short = all_short inner (record { records = held.modes.records; bricks = held.modes.bricks; errors = held.modes.errors; streams = held.modes.streams }) held.standing;
   }
 
   fine_read : Fine inner read.1
@@ -181,7 +180,7 @@ module _ (laws : SeenLaws) (shortness : ModesAreShort) (p : ModuleParts) (s : Si
 
   procedure_named : BodyNamed p made_so ms r
   procedure_named =
-      let good = body_made inner around answers.0 b.body sound.broad sound.words in
+      let good = body_made inner around answers.0 b.body sound.words in
       let fine_answers : Fine inner answers.1 = fine_before inner (good.grows (within heads.0 s) answers.1) fine_read in
       let fine_heads : Fine inner heads.1 = fine_before inner (grow_answer s b.at b.result heads.1) fine_answers in
       let first : answers.1.labels ≡ 0 = answer_labels s b.at b.result heads.1 ∙ (parameters_fit inner held.few held.standing s [] b.fields nowhere nothing_yet tt fine_heads).labels in
@@ -203,5 +202,5 @@ module _ (laws : SeenLaws) (shortness : ModesAreShort) (p : ModuleParts) (s : Si
         labels = λ l k e. go.stand l (omega (arith, first)) (omega (arith, first, go.count, got_below go.sets l k e)) (Leave ∷ []);
       }
 
-pub procedures_named : SeenLaws → ModesAreShort → ProceduresAreNamed
-procedures_named laws shortness p s b ms r sound held none given = procedure_named laws shortness p s b ms r sound held none given
+pub procedures_named : ProceduresAreNamed
+procedures_named p s b ms r sound held none given = procedure_named p s b ms r sound held none given

@@ -18,7 +18,7 @@ use Rattle.rt_tree.specs.Statements.{Sight as Seen}
 use Rattle.rt_names.specs.Sights.{Sight}
 use Rattle.rt_statements.specs.Procedures.{parameters, nothing_yet, procedure, faults}
 use Rattle.rt_accepted.specs.Held.{Holds}
-use Rattle.rt_accepted.specs.Texts.{labels_in_body, body_is_broad}
+use Rattle.rt_accepted.specs.Texts.{labels_in_body}
 use Rattle.rt_derived.specs.Numbers.{words_in_body}
 use Rattle.rt_within.specs.Modes.{ModesStand}
 use Rattle.rt_typed.specs.Modules.{Faults, tree}
@@ -27,10 +27,8 @@ use Rattle.rt_kept.specs.Modules.{BodyNamed}
 
 -- ---- a procedure by itself
 
--- Its text, as the grammar gives it: what AND and OR join are two or more, each number is a word, and there are fewer labels
--- than 65,536.
+-- Its text, as the grammar gives it: each number is a word, and there are fewer labels than 65,536.
 pub record IsSound (b : ProcedureBrick) : Type 0 where
-  pub broad : body_is_broad b.body ≡ true
   pub words : words_in_body b.body ≡ true
   pub labels : labels_in_body b.body < 65536
 
