@@ -32,11 +32,10 @@ use Rattle.rt_derived.specs.Numbers.{words_in_any, words_in_mode, words_in_local
 use Rattle.rt_within.proofs.Locals.{noted_locals}
 use Rattle.rt_kept.specs.Trees.{Started, Within, and_local}
 use Rattle.rt_kept.specs.Named.{any_name, SeqNamed}
-use Rattle.rt_kept.proofs.Locals.{within_self, within_all, within_more}
 use Rattle.rt_scoped.proofs.Good.{Zeroed, found_labels, value_named}
 use Rattle.rt_scoped.proofs.Judged.{Around}
 use Rattle.rt_scoped.proofs.Seen.{Sees, sees_named, sees_more}
-use Rattle.rt_scoped.proofs.Sets.{Sets}
+use Rattle.rt_scoped.proofs.Sets.{Sets, within_self, within_all, within_more}
 
 left_of : (a b : Bool) → a && b ≡ true → a ≡ true
 left_of true b e = refl
