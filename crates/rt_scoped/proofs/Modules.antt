@@ -1,5 +1,5 @@
 -- Each procedure of a module in which no fault stands names locals where these have a value.
-use Rattle.std.proofs.Common.{◌≡◌, ℕ, zero, suc, ◌&&◌, true, List, [], ◌∷◌, ◌++◌, length, map, drop, replicate, Option, Some, None, sym, ap, subst}
+use Rattle.std.proofs.Common.{◌≡◌, ℕ, zero, suc, ◌&&◌, Bool, true, List, [], ◌∷◌, ◌++◌, length, map, drop, replicate, Option, Some, None, sym, ap, ◌∙◌, subst}
 use Rattle.std.specs.List.{AllByRecursion}
 use Rattle.rt_bricks.specs.declared.tree.Declaration.{Declaration}
 use Rattle.rt_bricks.specs.declared.tree.Declaration.TheVariants as declares
@@ -60,7 +60,7 @@ use Rattle.rt_judged.proofs.Records.{record_count, modes_are_records, text_shall
 use Rattle.rt_judged.proofs.Unfit.{mode_free}
 use Rattle.rt_judged.proofs.Whole.{NoneInside, none_inside, module_fits}
 use Rattle.rt_kept.specs.Modules.{BodyNamed}
-use Rattle.rt_scoped.specs.Laws.{ModulesAreNamed}
+use Rattle.rt_scoped.specs.Laws.{IsSound, IsHeld, ModulesAreNamed}
 use Rattle.rt_scoped.proofs.Procedures.{procedures_named}
 
 -- the modes of a PROC
@@ -120,13 +120,13 @@ module _ (items : List Item) (m : Module) (us : Faults) (text : IsText items m) 
       let layer : out-Mode (mode.Proc ms z.result) ≡ Mode-F.Proc ms z.result = search mode_lemmas.the_lemmas in
       let same_so = same_modes_of ms ws z.result o (out-Mode (mode.Proc ms z.result)) layer (ap out-Mode is_mode ∙ h) in
       let fields_words : Bool = all (map words_in_fields q.fields) in
-      let held = record {
+      let held : IsHeld (tree m us) s q = record {
         outside = λ ls seen. names_are_held items m us ls seen text fine;
         modes = fitting_modes (tree m us) (module_fits items m us text fine);
         few = few_locals s q (record { broad = k.broad; parts = k.items_are.0; few = k.items_are.1 });
         standing = locals_stand n s q k.shallow name_records;
       } in
-      let sound = record { words = right_of (words_in_result q.result) (words_in_body q.body) (right_of fields_words (words_in_result q.result && words_in_body q.body) k.words); labels = k.labels } in
+      let sound : IsSound q = record { words = right_of (words_in_result q.result) (words_in_body q.body) (right_of fields_words (words_in_result q.result && words_in_body q.body) k.words); labels = k.labels } in
       let heads = heads_are names s same free [] q.fields nothing_yet (first_nothing (mode_faults names site.Variable q.fields) (result_faults names q.name q.result) k.none) in
       let none : faults s q ≡ [] = nothing_in (faults s q) k.fits in
       subst (λ (b : ProcBody). BodyNamed (tree m us) b ws o) is_body
