@@ -1,5 +1,5 @@
 -- A body names locals where these have a value, whatever stands in it.
-use Rattle.std.proofs.Common.{◌≡◌, ℕ, ◌+◌, ◌&&◌, Bool, true, false, List, [], ◌∷◌, length, map, Option, Some, None, refl, sym, ◌∙◌, subst}
+use Rattle.std.proofs.Common.{◌≡◌, ℕ, ◌+◌, ◌&&◌, Bool, true, List, [], ◌∷◌, length, map, Option, Some, None, refl, sym, ◌∙◌, subst}
 use Rattle.rt_grammar.specs.declared.at.Ident.{Ident}
 use Rattle.rt_syntax.specs.declared.tree.Body.{Body, out-Body, roll-Body, map-Body}
 use Rattle.rt_syntax.specs.declared.tree.Body as body_lemmas
@@ -18,19 +18,12 @@ use Rattle.rt_statements.specs.Statements.{Line, JudgedStat, JudgedBody, JudgedB
 use Rattle.rt_accepted.specs.Texts.{sum, simple_labels, all, labels_in_simple, labels_in_body, labels_in_branch, labels_in_line}
 use Rattle.rt_accepted.proofs.Growing.{grew_same, grew_then}
 use Rattle.rt_derived.specs.Numbers.{words_in_expr, words_in_cond, words_in_locals, words_in_control, simple_words, words_in_simple, words_in_body, words_in_branch, words_in_statement}
+use Rattle.rt_judged.proofs.Lists.{left_of, right_of}
 use Rattle.rt_scoped.proofs.Good.{StatGood, call_good, assign_good, assign_val_good, return_good, goto_good, switch_good}
 use Rattle.rt_scoped.proofs.Inside.{BodyGood, BranchGood, BranchesGood, block_good, body_good, while_good, to_good, for_good, branch_good, if_good, else_good}
 use Rattle.rt_scoped.proofs.Judged.{Around}
 use Rattle.rt_scoped.proofs.Lines.{LineGood, AllGood}
 use Rattle.rt_scoped.proofs.Sets.{made_alone}
-
-left_of : (a b : Bool) → a && b ≡ true → a ≡ true
-left_of true b e = refl
-left_of false b e = e
-
-right_of : (a b : Bool) → a && b ≡ true → b ≡ true
-right_of true b e = e
-right_of false b e = absurd cc
 
 module _ (c : Scope) (a : Around c) where
   as_stat : {p q : JudgedStat} {m n : ℕ} → p ≡ q → m ≡ n → StatGood c a q n → StatGood c a p m

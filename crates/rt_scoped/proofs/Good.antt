@@ -27,12 +27,13 @@ use Rattle.rt_nodes.specs.Typing.{Placed, Valued, Spot, OnLocal, OnPath, OnRow, 
 use Rattle.rt_operands.specs.Outcomes.{Outcome, ◌>>=◌}
 use Rattle.rt_operands.specs.declared.scope.Meaning.{Meaning}
 use Rattle.rt_operands.specs.declared.scope.Meaning.TheVariants as meaning
+use Rattle.rt_operands.specs.declared.fault.CheckFault.{CheckFault}
 use Rattle.rt_operands.specs.declared.fault.CheckFault.TheVariants as fault
 use Rattle.rt_operands.specs.Names.{find}
 use Rattle.rt_exprs.specs.Judging.{alone, target, val_target}
 use Rattle.rt_tree.specs.Statements.{starts_at_zero, call_tree, assigned_tree, step_tree, tested}
 use Rattle.rt_names.specs.declared.tally.Tally.{Tally}
-use Rattle.rt_names.specs.Parts.{found_or, value_or, stat_or, test_or, label_or, labels_in}
+use Rattle.rt_names.specs.Parts.{noted_if, found_or, value_or, stat_or, test_or, label_or, labels_in}
 use Rattle.rt_names.specs.Sights.{Sight, scope_of, value_in, assignment_in, val_assignment_in, call_in, test_in, label_in, label_by}
 use Rattle.rt_statements.specs.declared.answer.Answer.{Answer}
 use Rattle.rt_statements.specs.declared.answer.Answer.TheVariants as answer
@@ -43,6 +44,7 @@ use Rattle.rt_derived.specs.Numbers.{words_in_expr, words_in_any, words_in_chain
 use Rattle.rt_weighed.proofs.Trees.{tree_number}
 use Rattle.rt_within.proofs.Good.{found_is}
 use Rattle.rt_within.proofs.Made.{stat_of, made_call, made_assign, made_goto, made_back, made_return, made_switch}
+use Rattle.rt_judged.proofs.Lists.{left_of, right_of}
 use Rattle.rt_kept.specs.Trees.{Started, mode_of_local}
 use Rattle.rt_kept.specs.Named.{any_name, TermNamed, CondNamed, LabelNamed, LabelsNamed, StmtNamed}
 use Rattle.rt_seen.specs.Seen.{SpotNamed}
@@ -55,19 +57,15 @@ use Rattle.rt_scoped.proofs.Standing.{StandsInside}
 abbrev pub Zeroed : Scope → Started → Type 0
 Zeroed c v = (i : ℕ) (l : Made_local) → slice_get c.locals i ≡ Some l → starts_at_zero (out-Mode (mode_of_local l)) ≡ true → v i ≡ true
 
-left_of : (a b : Bool) → a && b ≡ true → a ≡ true
-left_of true b e = refl
-left_of false b e = e
-
-right_of : (a b : Bool) → a && b ≡ true → b ≡ true
-right_of true b e = e
-right_of false b e = absurd cc
-
 -- ---- what is found, or what stands in its place
 
 pub found_labels : {A : Type 0} (other : A) (o : Outcome A) (t : Tally) → (found_or other o t).1.labels ≡ t.labels
 found_labels other (Ok x) t = refl
 found_labels other (Err g) t = refl
+
+pub noted_labels : (b : Bool) (g : CheckFault) (t : Tally) → (noted_if b g t).labels ≡ t.labels
+noted_labels true g t = refl
+noted_labels false g t = refl
 
 record Bound {A B : Type 0} (o : Outcome A) (f : A → Outcome B) (y : B) : Type 0 where
   value : A

@@ -1,5 +1,5 @@
 -- Statements with parts name locals where these have a value, where the parts do.
-use Rattle.std.proofs.Common.{◌≡◌, ◌⊎◌, inl, inr, ℕ, ◌+◌, ◌<◌, ◌&&◌, Bool, true, false, List, [], ◌∷◌, ◌++◌, length, map, Option, Some, None, append_assoc, arith, refl, sym, ap, ◌∙◌, subst}
+use Rattle.std.proofs.Common.{◌≡◌, ◌⊎◌, inl, inr, ℕ, ◌+◌, ◌<◌, true, List, [], ◌∷◌, ◌++◌, length, map, Option, Some, None, append_assoc, arith, refl, sym, ap, ◌∙◌, subst}
 use Rattle.std.specs.Prelude.{slice_get}
 use Rattle.std.proofs.lemmas.List.{append-nil}
 use Rattle.rt_grammar.specs.declared.at.At.{At}
@@ -36,6 +36,7 @@ use Rattle.rt_accepted.proofs.Growing.{Pre, pre_then, grew_same, grew_then, Grow
 use Rattle.rt_accepted.proofs.Sequences.{one_longer, pre_length, pre_get, small_rest, Fine, fine_before}
 use Rattle.rt_derived.specs.Numbers.{words_in_expr, words_in_any, words_in_cond, words_in_locals, words_in_control}
 use Rattle.rt_within.proofs.Made.{stat_of, branch_of, made_block, made_while, made_to, made_for, made_if, made_else, made_body, made_branch}
+use Rattle.rt_judged.proofs.Lists.{left_of, right_of}
 use Rattle.rt_kept.specs.Trees.{Started}
 use Rattle.rt_kept.specs.Named.{any_name, CondNamed, StmtNamed, SeqNamed}
 use Rattle.rt_scoped.proofs.Good.{Zeroed, StatGood, int_named, int_labels, step_named, step_labels, test_named, test_labels}
@@ -45,14 +46,6 @@ use Rattle.rt_scoped.proofs.Locals.{zeroed_more, declarations_made}
 use Rattle.rt_scoped.proofs.Seen.{IsSeen, declared_has, Sees, sees_within}
 use Rattle.rt_scoped.proofs.Sets.{Sets, Made as Parted, made_alone, made_as, made_from, made_counted, made_then}
 use Rattle.rt_scoped.proofs.Standing.{StandsIn, StandsInside, stands_first, stands_later, stands_chosen, stands_otherwise}
-
-left_of : (a b : Bool) → a && b ≡ true → a ≡ true
-left_of true b e = refl
-left_of false b e = e
-
-right_of : (a b : Bool) → a && b ≡ true → b ≡ true
-right_of true b e = e
-right_of false b e = absurd cc
 
 module _ (c : Scope) (a : Around c) where
   -- A body, and a branch, with so many labels inside it.

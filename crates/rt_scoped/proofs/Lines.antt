@@ -1,16 +1,15 @@
 -- The statements of a sequence name locals where these have a value, and its labels stand in it.
-use Rattle.std.proofs.Common.{◌≡◌, ◌⊎◌, inl, inr, ℕ, zero, suc, ◌+◌, ◌<◌, ◌≤◌, Bool, true, false, List, [], ◌∷◌, ◌++◌, length, map, Option, Some, None, option_map, append_assoc, arith, refl, sym, ap, ◌∙◌, subst}
+use Rattle.std.proofs.Common.{◌≡◌, ◌⊎◌, inl, inr, ℕ, zero, suc, ◌+◌, ◌<◌, ◌≤◌, List, [], ◌∷◌, ◌++◌, length, map, Option, Some, None, option_map, append_assoc, arith, refl, sym, ap, ◌∙◌, subst}
 use Rattle.std.proofs.lemmas.List.{append-nil}
 use Rattle.rt_grammar.specs.declared.at.Ident.{Ident}
 use Rattle.rt_nodes.specs.declared.statement.Labelled.{Labelled}
 use Rattle.rt_nodes.specs.declared.statement.Stat.{Stat}
 use Rattle.rt_nodes.specs.Scopes.{Scope}
 use Rattle.rt_nodes.specs.Tree.{Stmt, Keep, Clear, Put, Run, Toss, Goto, GiveBack, Back, Switch, Inner, If, For, To, While, Recover, Seq, Then}
-use Rattle.rt_operands.specs.declared.fault.CheckFault.{CheckFault}
 use Rattle.rt_operands.specs.declared.scope.Meaning.TheVariants as meaning
 use Rattle.rt_tree.specs.Statements.{marks, labelled_tree, sequence_tree}
 use Rattle.rt_names.specs.declared.tally.Tally.{Tally}
-use Rattle.rt_names.specs.Parts.{noted_if, label_more, labels_more, numbers_from, behind as number_behind}
+use Rattle.rt_names.specs.Parts.{label_more, labels_more, numbers_from, behind as number_behind}
 use Rattle.rt_names.specs.Sights.{Names, Sight, holds, within}
 use Rattle.rt_statements.specs.Statements.{Line, labels_of, labels_at, labelled, in_order, sequence}
 use Rattle.rt_accepted.specs.Texts.{sum}
@@ -19,7 +18,7 @@ use Rattle.rt_accepted.proofs.Sequences.{small_rest, Fine, fine_before}
 use Rattle.rt_within.proofs.Made.{stat_of, line_of, made_line}
 use Rattle.rt_kept.specs.Trees.{Started, Within, behind}
 use Rattle.rt_kept.specs.Named.{any_name, StmtNamed, SeqNamed}
-use Rattle.rt_scoped.proofs.Good.{Zeroed}
+use Rattle.rt_scoped.proofs.Good.{Zeroed, noted_labels}
 use Rattle.rt_scoped.proofs.Seen.{IsSeen, LevelHas, declared_has, Sees, sees_within}
 use Rattle.rt_scoped.proofs.Sets.{Sets, AllAt, Made, below_or, made_alone, made_counted, made_then, made_labelled, within_self, within_more}
 use Rattle.rt_scoped.proofs.Standing.{StandsIn, StandsInside, stands_first, stands_later, up_from, stands_marked, stands_own}
@@ -52,10 +51,6 @@ module _ (at : Sets) (v : Started) where
   marks_named k (suc n) q h g = (v, h k (omega arith) (omega arith), within_self v, within_self v, marks_named (suc k) n q (λ l x y. h l (omega (arith, x)) (omega (arith, y))) g)
 
 -- ---- labels
-
-noted_labels : (b : Bool) (g : CheckFault) (t : Tally) → (noted_if b g t).labels ≡ t.labels
-noted_labels true g t = refl
-noted_labels false g t = refl
 
 -- the number behind a label
 next_number : (l : Names) (n : Ident) (t : Tally) → t.labels + 1 < 65536 → (label_more l n t).1.labels ≡ suc t.labels

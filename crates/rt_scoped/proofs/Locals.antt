@@ -1,5 +1,5 @@
 -- Declarations of locals name locals where these have a value, and behind a declaration its local has one.
-use Rattle.std.proofs.Common.{◌≡◌, ℕ, ◌==◌, ◌&&◌, not, Bool, true, false, List, [], ◌∷◌, ◌++◌, length, map, Option, Some, None, Ok, Err, append_assoc, arith, refl, sym, ap, ◌∙◌, subst}
+use Rattle.std.proofs.Common.{◌≡◌, ℕ, ◌==◌, not, Bool, true, false, List, [], ◌∷◌, ◌++◌, length, map, Option, Some, None, Ok, Err, append_assoc, arith, refl, sym, ap, ◌∙◌, subst}
 use Rattle.std.specs.Prelude.{slice_get}
 use Rattle.std.proofs.lemmas.Bool.Decides.{nat_tests}
 use Rattle.std.proofs.lemmas.List.{append-nil}
@@ -15,7 +15,6 @@ use Rattle.rt_nodes.specs.declared.value.Value.{Value}
 use Rattle.rt_nodes.specs.declared.value.Value.TheVariants as values
 use Rattle.rt_nodes.specs.Scopes.{Scope}
 use Rattle.rt_nodes.specs.Tree.{Seq, Then}
-use Rattle.rt_operands.specs.declared.fault.CheckFault.{CheckFault}
 use Rattle.rt_operands.specs.declared.fault.CheckFault.TheVariants as fault
 use Rattle.rt_operands.specs.declared.scope.Meaning.TheVariants as meaning
 use Rattle.rt_operands.specs.Outcomes.{Outcome}
@@ -30,24 +29,13 @@ use Rattle.rt_accepted.proofs.Growing.{Pre, grow_placed, grow_locals, grow_decla
 use Rattle.rt_accepted.proofs.Sequences.{one_is_there, one_longer, pre_length, pre_get, small_rest, Fine, fine_before}
 use Rattle.rt_derived.specs.Numbers.{words_in_any, words_in_mode, words_in_local, words_in_locals}
 use Rattle.rt_within.proofs.Locals.{noted_locals}
+use Rattle.rt_judged.proofs.Lists.{left_of, right_of}
 use Rattle.rt_kept.specs.Trees.{Started, Within, and_local}
 use Rattle.rt_kept.specs.Named.{any_name, SeqNamed}
-use Rattle.rt_scoped.proofs.Good.{Zeroed, found_labels, value_named}
+use Rattle.rt_scoped.proofs.Good.{Zeroed, found_labels, value_named, noted_labels}
 use Rattle.rt_scoped.proofs.Judged.{Around}
 use Rattle.rt_scoped.proofs.Seen.{Sees, sees_named, sees_more}
 use Rattle.rt_scoped.proofs.Sets.{Sets, within_self, within_all, within_more}
-
-left_of : (a b : Bool) → a && b ≡ true → a ≡ true
-left_of true b e = refl
-left_of false b e = e
-
-right_of : (a b : Bool) → a && b ≡ true → b ≡ true
-right_of true b e = e
-right_of false b e = absurd cc
-
-noted_labels : (b : Bool) (g : CheckFault) (t : Tally) → (noted_if b g t).labels ≡ t.labels
-noted_labels true g t = refl
-noted_labels false g t = refl
 
 pub mode_labels : (o : Outcome Mode) (t : Tally) → (mode_or o t).1.labels ≡ t.labels
 mode_labels (Ok m) t = refl

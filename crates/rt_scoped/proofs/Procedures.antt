@@ -1,5 +1,5 @@
 -- A procedure names locals where these have a value.
-use Rattle.std.proofs.Common.{◌≡◌, ℕ, suc, ◌<◌, ◌≤◌, ◌||◌, ◌&&◌, not, Bool, true, false, List, [], ◌∷◌, ◌++◌, length, map, Option, Some, None, Ok, Err, option_map, arith, refl, sym, ap, ◌∙◌, subst}
+use Rattle.std.proofs.Common.{◌≡◌, ℕ, suc, ◌<◌, ◌≤◌, ◌&&◌, not, Bool, true, false, List, [], ◌∷◌, ◌++◌, length, Option, Some, None, Ok, Err, option_map, arith, refl, sym, ap, ◌∙◌, subst}
 use Rattle.std.specs.Prelude.{nat_lt, slice_get}
 use Rattle.std.specs.List.{list_all}
 use Rattle.std.proofs.lemmas.Bool.Decides.{nat_tests}
@@ -36,6 +36,7 @@ use Rattle.rt_accepted.proofs.Brick.{grow_parameters, grow_answer, parameters_fi
 use Rattle.rt_accepted.proofs.Growing.{pre_same, Grew, grew_same, grew_then, Growing}
 use Rattle.rt_accepted.proofs.Sequences.{one_longer, pre_length, pre_get, small_rest, Fine, fine_before}
 use Rattle.rt_within.proofs.Locals.{noted_locals}
+use Rattle.rt_judged.proofs.Lists.{or_left, or_right, length_mapped}
 use Rattle.rt_kept.specs.Trees.{Started, mode_of_local}
 use Rattle.rt_kept.specs.Systems.{is_plain, at_start, site_of}
 use Rattle.rt_kept.specs.Modules.{BodyNamed}
@@ -48,14 +49,6 @@ use Rattle.rt_scoped.proofs.Locals.{mode_labels}
 use Rattle.rt_scoped.proofs.Seen.{MeaningSeen, IsSeen, LevelHas, LevelsHave, declared_has, Sees}
 use Rattle.rt_scoped.proofs.Sets.{Sets, SetsAt, sets_there, got_below}
 
-left_or : (a b : Bool) → a ≡ true → a || b ≡ true
-left_or true b e = refl
-left_or false b e = absurd cc
-
-right_or : (a b : Bool) → b ≡ true → a || b ≡ true
-right_or true b e = refl
-right_or false b e = e
-
 grow_noted : (b : Bool) (g : CheckFault) (t : Tally) → Grew t (noted_if b g t)
 grow_noted true g t = record { locals = pre_same t.locals; faults = record { more = g ∷ []; is = refl } }
 grow_noted false g t = grew_same t
@@ -67,10 +60,6 @@ grow_named l n (Ok m) t = grew_then (grow_noted _ _ t) (record { locals = record
 grow_group : (m : Outcome Mode) (l : Names) (ns : List Ident) → Growing (group m l ns)
 grow_group m l [] t = grew_same t
 grow_group m l (n ∷ ns) t = grew_then (grow_named l n m t) (grow_group m (named l n m t).0 ns (named l n m t).1)
-
-length_mapped : (ms : List Mode) → length (map made.Variable ms) ≡ length ms
-length_mapped [] = refl
-length_mapped (m ∷ ms) = ap suc (length_mapped ms)
 
 answer_labels : (s : Sight) (place : At) (w : Option WrittenMode) (t : Tally) → (answer_in s place w t).1.labels ≡ t.labels
 answer_labels s place None t = refl
@@ -170,13 +159,13 @@ module _ (p : ModuleParts) (s : Sight) (b : ProcedureBrick) (ms : List Mode) (r 
   fine_read = fine_before inner (grow_noted (is_wanted answers.0 && not (closed read.0)) (fault.NoResult b.ends) read.1) (record { none = none; known = pre_same last.locals })
 
   firsts : (i : ℕ) → i < length ms → begins i ≡ true
-  firsts i h = left_or (nat_lt i (length ms)) (is_plain (option_map mode_of_local (slice_get made_so.locals i))) (grind (arith, nat_tests))
+  firsts i h = or_left (nat_lt i (length ms)) (is_plain (option_map mode_of_local (slice_get made_so.locals i))) (grind (arith, nat_tests))
 
   zeroed : Zeroed inner begins
-  zeroed i l e h = right_or (nat_lt i (length ms)) (is_plain (option_map mode_of_local (slice_get made_so.locals i))) (ap (λ (o : Option Made). is_plain (option_map mode_of_local o)) e ∙ h)
+  zeroed i l e h = or_right (nat_lt i (length ms)) (is_plain (option_map mode_of_local (slice_get made_so.locals i))) (ap (λ (o : Option Made). is_plain (option_map mode_of_local o)) e ∙ h)
 
   count : length heads.1.locals ≡ length ms
-  count = ap length given ∙ length_mapped ms
+  count = ap length given ∙ length_mapped made.Variable ms
 
   procedure_named : BodyNamed p made_so ms r
   procedure_named =
