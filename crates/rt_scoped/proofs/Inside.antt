@@ -54,6 +54,7 @@ module _ (c : Scope) (a : Around c) where
     pub made : (s : Sight) (t : Tally) (v : Started) → Fine c (p s t).1 → t.labels + n < 65536 → Zeroed c v
         → Parted t.labels (p s t).1.labels n (StandsIn (body_tree c (p s t).0)) (λ at. Sees at c v s → SeqNamed any_name at v (body_tree c (p s t).0))
 
+  -- a test, and what is done where it holds
   abbrev pub BranchNamed : Sets → Started → Cond × Seq → Type 0
   BranchNamed at v b = CondNamed any_name v b.0 × SeqNamed any_name at v b.1
 
@@ -181,9 +182,9 @@ module _ (c : Scope) (a : Around c) where
 
   -- ---- branches that are made
 
-  abbrev StandsIn_any : List BranchMade → ℕ → Type 0
-  StandsIn_any [] l = ⊥
-  StandsIn_any (b ∷ bs) l = StandsIn (branch_of c b).1 l ⊎ StandsIn_any bs l
+  abbrev AnyBranchStands : List BranchMade → ℕ → Type 0
+  AnyBranchStands [] l = ⊥
+  AnyBranchStands (b ∷ bs) l = StandsIn (branch_of c b).1 l ⊎ AnyBranchStands bs l
 
   abbrev EachNamed : Sets → Started → List BranchMade → Type 0
   EachNamed at v [] = Unit {0}
@@ -192,7 +193,7 @@ module _ (c : Scope) (a : Around c) where
   record BranchesMade (s : Sight) (v : Started) (n : ℕ) (done : List BranchMade) (t : Tally) (result : List BranchMade × Tally) : Type 0 where
     rows : List BranchMade
     is : result.0 ≡ done ++ rows
-    made : Parted t.labels result.1.labels n (StandsIn_any rows) (λ at. Sees at c v s → EachNamed at v rows)
+    made : Parted t.labels result.1.labels n (AnyBranchStands rows) (λ at. Sees at c v s → EachNamed at v rows)
 
   branches_made : (bs : List JudgedBranch) (ns : List ℕ) (h : BranchesGood bs ns) (s : Sight) (v : Started) (done : List BranchMade) (t : Tally) → Fine c (branches s done bs t).1 → t.labels + sum ns < 65536 → Zeroed c v
       → BranchesMade s v (sum ns) done t (branches s done bs t)
@@ -213,7 +214,7 @@ module _ (c : Scope) (a : Around c) where
   -- ---- the tree of branches, with what stands behind ELSE
 
   module _ (e : Seq) where
-    branch_stands : (bs : List BranchMade) (l : ℕ) → StandsIn_any bs l → StandsIn (branches_tree (map (branch_of c) bs) e) l
+    branch_stands : (bs : List BranchMade) (l : ℕ) → AnyBranchStands bs l → StandsIn (branches_tree (map (branch_of c) bs) e) l
     branch_stands [] l h = absurd h
     branch_stands (b ∷ bs) l (inl h) = stands_first (If (branch_of c b).0 (branch_of c b).1 (branches_tree (map (branch_of c) bs) e)) Done l (stands_chosen (branch_of c b).0 (branch_of c b).1 (branches_tree (map (branch_of c) bs) e) l h)
     branch_stands (b ∷ bs) l (inr h) = stands_first (If (branch_of c b).0 (branch_of c b).1 (branches_tree (map (branch_of c) bs) e)) Done l (stands_otherwise (branch_of c b).0 (branch_of c b).1 (branches_tree (map (branch_of c) bs) e) l (branch_stands bs l h))
@@ -227,7 +228,7 @@ module _ (c : Scope) (a : Around c) where
     branches_named at v (b ∷ bs) h g =
         then_named at v (If (branch_of c b).0 (branch_of c b).1 (branches_tree (map (branch_of c) bs) e)) Done (h.0.0, h.0.1, branches_named at v bs h.1 g) tt
 
-    branch_inside : (bs : List BranchMade) (l : ℕ) → StandsIn_any bs l → StandsInside (if_tree (map (branch_of c) bs) e) l
+    branch_inside : (bs : List BranchMade) (l : ℕ) → AnyBranchStands bs l → StandsInside (if_tree (map (branch_of c) bs) e) l
     branch_inside [] l h = absurd h
     branch_inside (b ∷ bs) l (inl h) = stands_chosen (branch_of c b).0 (branch_of c b).1 (branches_tree (map (branch_of c) bs) e) l h
     branch_inside (b ∷ bs) l (inr h) = stands_otherwise (branch_of c b).0 (branch_of c b).1 (branches_tree (map (branch_of c) bs) e) l (branch_stands bs l h)

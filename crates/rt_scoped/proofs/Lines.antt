@@ -104,10 +104,12 @@ numbers_are done k (n ∷ ns) h =
 -- ---- statements with their labels
 
 module _ (c : Scope) where
+  -- a label stands inside the statement, where there is one
   abbrev pub AnyStands : Option Stat → ℕ → Type 0
   AnyStands None l = ⊥
   AnyStands (Some x) l = StandsInside (stat_of c x) l
 
+  -- an empty statement names nothing
   abbrev pub AnyNamed : Sets → Started → Option Stat → Type 0
   AnyNamed at v None = Unit {0}
   AnyNamed at v (Some x) = StmtNamed any_name at v (stat_of c x)
@@ -120,6 +122,7 @@ module _ (c : Scope) where
     pub made : (s : Sight) (t : Tally) (v : Started) → Fine c (x.part s t).1 → t.labels + inner < 65536 → Zeroed c v
         → Made t.labels (x.part s t).1.labels inner (AnyStands (x.part s t).0) (λ at. Sees at c v s → AnyNamed at v (x.part s t).0)
 
+  -- each statement has as many labels as its number says
   abbrev pub AllGood : List Line → List ℕ → Type 0
   AllGood [] [] = Unit {0}
   AllGood (x ∷ xs) (n ∷ ns) = LineGood x n × AllGood xs ns
@@ -131,7 +134,7 @@ module _ (c : Scope) where
   all_grow [] (n ∷ ns) h = absurd h
   all_grow (x ∷ xs) [] h = absurd h
 
-  -- how many stand inside the statements
+  -- how many labels stand inside the statements
   inners : (xs : List Line) (ns : List ℕ) → AllGood xs ns → ℕ
   inners [] [] h = 0
   inners (x ∷ xs) (n ∷ ns) h = h.0.inner + inners xs ns h.1
@@ -172,13 +175,14 @@ module _ (c : Scope) where
   abbrev pub rows_tree : List Labelled → Seq
   rows_tree rows = sequence_tree (map (line_of c) rows)
 
-  -- behind those that are done, the first label has number k
+  -- What statements are behind those that are done: label k is the first of their own labels.
   record OrderMade (s : Sight) (v : Started) (k own inner : ℕ) (done : List Labelled) (t : Tally) (result : List Labelled × Tally) : Type 0 where
     rows : List Labelled
     is : result.0 ≡ done ++ rows
     stand : (l : ℕ) → k ≤ l → l < k + own → StandsIn (rows_tree rows) l
     made : Made t.labels result.1.labels inner (StandsIn (rows_tree rows)) (λ at. AllAt at k own v → Sees at c v s → SeqNamed any_name at v (rows_tree rows))
 
+  -- a label of the statement, or of one behind it
   own_or_later : (k m own after : ℕ) (q : Seq) (o : Option Stat) → after ≡ k + m → ((l : ℕ) → after ≤ l → l < after + own → StandsIn q l) → (l : ℕ) → k ≤ l → l < k + (m + own) → (l < k + m) ⊎ (k + m ≤ l) → StandsIn (line_tree k m q o) l
   own_or_later k m own after q o e h l x y (inl p) = line_own k m q o l x p
   own_or_later k m own after q o e h l x y (inr p) = line_later k m q o l (h l (omega (arith, p, e)) (omega (arith, y, e)))
