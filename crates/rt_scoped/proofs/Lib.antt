@@ -1,0 +1,11 @@
+pub mod Sets
+pub mod Standing
+pub mod Seen
+pub mod Judged
+pub mod Good
+pub mod Lines
+pub mod Locals
+pub mod Inside
+pub mod Bodies
+pub mod Procedures
+pub mod Modules
