@@ -185,5 +185,5 @@ module _ (items : List Item) (m : Module) (us : Faults) (text : IsText items m) 
       (none_inside (records ds) s names ds (λ g k. fine.none g (inside (subst (λ (hs : List Heading). Somewhere (Inside s (records ds) g) hs ds) (sym declared_is) k))))))
 
 pub modules_named : ModulesAreNamed
-modules_named items m us text fine k d e here w body ws o is h =
+modules_named items m us text fine k d e w body ws o is h =
     all_get (BrickNamed items m us text fine) (tree m us).bricks k d (bricks_named items m us text fine) e w body ws o is h

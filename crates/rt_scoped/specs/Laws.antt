@@ -13,7 +13,7 @@ use Rattle.rt_nodes.specs.declared.brick.Local.TheVariants as local
 use Rattle.rt_nodes.specs.declared.brick.ModuleParts.{ModuleParts}
 use Rattle.rt_nodes.specs.declared.brick.ProcBody.{ProcBody}
 use Rattle.rt_nodes.specs.Scopes.{scope_of, with_locals}
-use Rattle.rt_tree.specs.Modules.{local_stands, is_here}
+use Rattle.rt_tree.specs.Modules.{local_stands}
 use Rattle.rt_tree.specs.Statements.{Sight as Seen}
 use Rattle.rt_names.specs.Sights.{Sight}
 use Rattle.rt_statements.specs.Procedures.{parameters, nothing_yet, procedure, faults}
@@ -50,8 +50,8 @@ ProceduresAreNamed = (p : ModuleParts) (s : Sight) (b : ProcedureBrick) (ms : Li
 
 -- ---- a whole module
 
--- In a module in which no fault stands each own or ENT procedure does.
+-- In a module in which no fault stands each procedure with a body does.
 abbrev pub ModulesAreNamed : Type 0
 ModulesAreNamed = (items : List TextItem) (m : Module) (us : Faults) → IsText items m → IsFaultless m.declarations us
-    → (k : ℕ) (d : Brick) → slice_get (tree m us).bricks k ≡ Some d → is_here d.kind ≡ true
+    → (k : ℕ) (d : Brick) → slice_get (tree m us).bricks k ≡ Some d
     → (w : Mode) (body : ProcBody) (ws : List Mode) (o : Option Mode) → d.sort ≡ sort.Proc w (Some body) → out-Mode w ≡ Mode-F.Proc ws o → BodyNamed (tree m us) body ws o

@@ -8,7 +8,7 @@ pub fn procedures_are_named()
     ensures { ProceduresAreNamed }
 {}
 
-/// So does each own and ENT procedure of a module in which no fault stands.
+/// So does each procedure with a body in a module in which no fault stands.
 pub fn modules_are_named()
     ensures { ModulesAreNamed }
 {}

@@ -13,7 +13,7 @@ use Rattle.rt_nodes.specs.declared.brick.ProcBody.{ProcBody}
 use Rattle.rt_nodes.specs.Scopes.{is_svc}
 use Rattle.rt_pieces.specs.declared.item.Item.{Item}
 use Rattle.rt_ranges.specs.Ranges.{IsByte, ItemsAreInRange}
-use Rattle.rt_tree.specs.Modules.{is_here, every_node_fits}
+use Rattle.rt_tree.specs.Modules.{every_node_fits}
 use Rattle.rt_tree.specs.Stored.{System, HasBrick, module_of}
 use Rattle.rt_typing.specs.Opened.{IsTable, IsField}
 use Rattle.rt_typed.specs.Modules.{Faults, tree}
@@ -63,9 +63,9 @@ module _ (numbered : NumbersAreFit) (bodies : ModulesAreNamed) (nodes : NodesFit
   table : IsTable p.modes
   table = subst (λ (q : ModuleParts). IsTable q.modes) (sym k.is) (tabled k.items k.source k.faults k.text k.spelled k.faultless)
 
-  named : (b : ℕ) (d : Brick) → slice_get p.bricks b ≡ Some d → is_here d.kind ≡ true → (w : Mode) (body : ProcBody) (ws : List Mode) (o : Option Mode) → d.sort ≡ sort.Proc w (Some body) → out-Mode w ≡ Mode-F.Proc ws o → BodyNamed p body ws o
-  named b d at here w body ws o is opens =
-      subst (λ (q : ModuleParts). BodyNamed q body ws o) (sym k.is) (bodies k.items k.source k.faults k.text k.faultless b d (ap (λ (q : ModuleParts). slice_get q.bricks b) (sym k.is) ∙ at) here w body ws o is opens)
+  named : (b : ℕ) (d : Brick) → slice_get p.bricks b ≡ Some d → (w : Mode) (body : ProcBody) (ws : List Mode) (o : Option Mode) → d.sort ≡ sort.Proc w (Some body) → out-Mode w ≡ Mode-F.Proc ws o → BodyNamed p body ws o
+  named b d at w body ws o is opens =
+      subst (λ (q : ModuleParts). BodyNamed q body ws o) (sym k.is) (bodies k.items k.source k.faults k.text k.faultless b d (ap (λ (q : ModuleParts). slice_get q.bricks b) (sym k.is) ∙ at) w body ws o is opens)
 
   are_fields : (b : ℕ) (d : Brick) (fs : List Field) (ss : List DataStart) → slice_get p.bricks b ≡ Some d → d.sort ≡ sort.Data fs ss → is_svc d.kind ≡ false → AllByRecursion (IsField p.modes) fs
   are_fields b d fs ss at is own =
@@ -78,7 +78,7 @@ texts_make_systems ranged words numbered bodies nodes tabled fields opened ps te
     record {
       nodes = λ m {p} e. node numbered bodies nodes tabled fields p (seen m p e);
       numbers = λ m p e. numbers numbered bodies nodes tabled fields p (seen m p e);
-      named = λ {m} {b} {p} {d} has here w body ws o is opens. named numbered bodies nodes tabled fields p (seen m p has.of) b d has.at here w body ws o is opens;
+      named = λ {m} {b} {p} {d} has here w body ws o is opens. named numbered bodies nodes tabled fields p (seen m p has.of) b d has.at w body ws o is opens;
       matched = matched;
       tables = λ m {p} e. table_of m p e;
       data_modes = λ m b n c p q d e fs gs ss ts hd sd own he se other same.
