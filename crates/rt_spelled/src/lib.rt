@@ -1,0 +1,6 @@
+//! How the names of a text are spelled.
+#![tactic(auto)]
+
+mod laws;
+
+pub use laws::names_are_words;
