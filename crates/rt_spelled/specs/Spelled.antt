@@ -5,7 +5,7 @@ use Rattle.rt_pieces.specs.declared.item.Item.{Item}
 use Rattle.rt_pieces.specs.declared.item.ItemKind.{ItemKind}
 use Rattle.rt_pieces.specs.declared.item.ItemKind.TheVariants as kind
 use Rattle.rt_items.specs.Lets.{Items}
-use Rattle.rt_spelled.specs.Texts.{Other, is_word, word}
+use Rattle.rt_typing.specs.Texts.{Other, is_word, word}
 
 -- The bytes are digits and letters, at least one, and are none of the words of modes.
 pub record IsSpelledName (s : List ℕ) : Type 0 where
