@@ -1,5 +1,5 @@
 -- The names of a module's records, and of the items of its data, are well spelled.
-use Rattle.std.proofs.Common.{ℕ, ◌-◌, Bool, List, [], ◌∷◌, Option, Some, None}
+use Rattle.std.proofs.Common.{ℕ, ◌-◌, Bool, [], ◌∷◌, Option, Some, None}
 use Rattle.std.specs.List.{AllByRecursion}
 use Rattle.rt_pieces.specs.declared.item.Mark.{Mark}
 use Rattle.rt_pieces.specs.declared.item.Word.{Word}
@@ -22,7 +22,7 @@ use Rattle.rt_counts.proofs.Bricks.{own_counts, semicolon_counts, options_count}
 use Rattle.rt_counts.proofs.Modes.{written_counts}
 use Rattle.rt_counts.proofs.Parts.{Counts, opened, a_word, a_mark, a_place, an_ident as ident_counts}
 use Rattle.rt_counts.proofs.Statements.{names_count}
-use Rattle.rt_spelled.proofs.Yields.{Yields, one_more, it as yields_it, behind as yields_behind}
+use Rattle.rt_derived.proofs.Yields.{Yields, one_more, it as yields_it, behind as yields_behind}
 use Rattle.rt_spelled.specs.Declarations.{IdentSpelled, FieldsSpelled, ItemSpelled, LineSpelled, DeclarationSpelled, DeclarationsAreSpelled}
 use Rattle.rt_spelled.proofs.Spells.{Spells, Leaves, leaves_it, leaves_then, leaves_maybe, leaves_turned, it, thn, behind, last, yielded, or_else, turned, an_ident}
 

@@ -1,13 +1,12 @@
 -- What the pieces of a text are that begin with a letter.
-use Rattle.std.proofs.Common.{◌≡◌, ℕ, Bool, true, false, List, [], ◌∷◌, ◌++◌, Option, Some, None, ◌⊎◌, inl, inr, refl, sym, ap, ◌∙◌, subst, arith}
+use Rattle.std.proofs.Common.{◌≡◌, ℕ, Bool, true, false, List, [], ◌∷◌, ◌++◌, Option, None, inl, inr, refl, sym, ap, ◌∙◌, subst, arith}
 use Rattle.std.specs.Prelude.{◌==◌, IsSome}
 use Rattle.std.specs.List.{AllByRecursion}
 use Rattle.std.proofs.lemmas.Bool.Decides.{nat_tests}
-use Rattle.rt_pieces.specs.declared.item.Mark.{Mark}
 use Rattle.rt_pieces.specs.declared.number.Opened.{Opened}
 use Rattle.rt_pieces.specs.Bytes.{is_letter, is_letter_or_digit, is_digit, Each}
 use Rattle.rt_pieces.specs.Cutting.{Piece, End, Cut, finish, blank, comment, open_comment, base, digits, piece, bad}
-use Rattle.rt_pieces.specs.Pieces.{mark_of, mark_of_two, mark_of_three, IsName, IsNumber, IsCharacter, IsString, IsMark, IsPiece}
+use Rattle.rt_pieces.specs.Pieces.{mark_of, mark_of_two, mark_of_three, IsName, IsNumber, IsString, IsPiece}
 
 -- what begins with a letter goes on with letters and digits
 abbrev pub GoesOn : List ℕ → Type 0

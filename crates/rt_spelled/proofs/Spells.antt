@@ -1,11 +1,10 @@
 -- What holds of all that a part of a grammar may mean where each item is well spelled, part by part.
-use Rattle.std.proofs.Common.{◌≡◌, ℕ, zero, suc, List, ◌∷◌, Option, Some, None, inl, inr, sym, subst}
+use Rattle.std.proofs.Common.{ℕ, List, ◌∷◌, inl, inr, sym, subst}
 use Rattle.std.specs.List.{AllByRecursion}
 use Rattle.rt_pieces.specs.declared.item.Item.{Item}
-use Rattle.rt_grammar.specs.declared.at.Ident.{Ident}
-use Rattle.rt_grammar.specs.Parts.{Part, nothing, ◌>>=◌, either, optional, Turns, stop, turn, turns, up_to, within, ident}
+use Rattle.rt_grammar.specs.Parts.{Part, nothing, ◌>>=◌, either, optional, Turns, stop, turn, turns, ident}
 use Rattle.rt_grammar.proofs.Tails.{Tail, all, past, Tail-then}
-use Rattle.rt_spelled.proofs.Yields.{Yields}
+use Rattle.rt_derived.proofs.Yields.{Yields}
 use Rattle.rt_spelled.specs.Spelled.{KindSpelled, IsSpelled}
 use Rattle.rt_spelled.specs.Declarations.{IdentSpelled}
 

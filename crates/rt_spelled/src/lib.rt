@@ -8,4 +8,6 @@
 
 mod laws;
 
-pub use laws::{declarations_are_spelled, names_are_words};
+pub use laws::{
+    data_items_are_fields, declarations_are_spelled, names_are_words, records_are_tables,
+};
