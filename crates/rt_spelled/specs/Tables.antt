@@ -13,7 +13,8 @@ use Rattle.rt_typed.specs.Modules.{Faults, tree}
 use Rattle.rt_judged.specs.Laws.{IsText, IsFaultless}
 use Rattle.rt_spelled.specs.Spelled.{IsSpelled}
 
--- The names of records and fields are words, none of them a mode's, no two records have one name, and the modes of fields may stand.
+-- The names of records and fields are words, none of them a mode's; no two records have one name; the modes of fields may
+-- stand.
 abbrev pub RecordsAreTables : Type 0
 RecordsAreTables = (items : List Item) (m : Module) (us : Faults) → IsText items m → AllByRecursion IsSpelled items → IsFaultless m.declarations us → IsTable (tree m us).modes
 
