@@ -1,5 +1,5 @@
 -- Modules of texts have all that the law of typed stores asks for.
-use Rattle.std.proofs.Common.{◌≡◌, ℕ, true, false, List, Option, Some, Ok, length, slice_get, sym, ap, ◌∙◌, subst, refl}
+use Rattle.std.proofs.Common.{◌≡◌, ℕ, true, false, List, Option, Some, slice_get, sym, ap, ◌∙◌, subst}
 use Rattle.std.specs.List.{AllByRecursion}
 use Rattle.rt_bricks.specs.declared.tree.Module.{Module}
 use Rattle.rt_modes.specs.declared.mode.Field.{Field}
@@ -12,21 +12,20 @@ use Rattle.rt_nodes.specs.declared.brick.ModuleParts.{ModuleParts}
 use Rattle.rt_nodes.specs.declared.brick.ProcBody.{ProcBody}
 use Rattle.rt_nodes.specs.Scopes.{is_svc}
 use Rattle.rt_pieces.specs.declared.item.Item.{Item}
-use Rattle.rt_ranges.specs.Ranges.{IsByte, ItemsAreInRange}
+use Rattle.rt_ranges.specs.Ranges.{ItemsAreInRange}
 use Rattle.rt_tree.specs.Modules.{every_node_fits}
-use Rattle.rt_tree.specs.Stored.{System, HasBrick, module_of}
+use Rattle.rt_tree.specs.Stored.{module_of}
 use Rattle.rt_typing.specs.Opened.{IsTable, IsField}
 use Rattle.rt_typed.specs.Modules.{Faults, tree}
 use Rattle.rt_judged.specs.Laws.{IsText, IsFaultless, ModulesFit as NodesFit}
-use Rattle.rt_kept.specs.Modules.{BodyNamed, ModulesFit}
+use Rattle.rt_kept.specs.Modules.{BodyNamed}
 use Rattle.rt_kept.specs.Starting.{NumbersFit}
-use Rattle.rt_kept.specs.Systems.{Matched, FullDataTell}
 use Rattle.rt_numbers.specs.Laws.{NumbersAreFit}
 use Rattle.rt_opened.specs.Items.{FullDataOpen}
 use Rattle.rt_scoped.specs.Laws.{ModulesAreNamed}
 use Rattle.rt_spelled.specs.Spelled.{IsSpelled, NamesAreWords}
 use Rattle.rt_spelled.specs.Tables.{RecordsAreTables, DataItemsAreFields}
-use Rattle.rt_sound.specs.Systems.{IsOfText, AreOfTexts, TextsMakeSystems}
+use Rattle.rt_sound.specs.Systems.{IsOfText, TextsMakeSystems}
 use Rattle.rt_sound.proofs.Few.{few_items}
 
 -- what is known of a module of a text: it is the tree of a module in which no fault stands
@@ -73,7 +72,7 @@ module _ (numbered : NumbersAreFit) (bodies : ModulesAreNamed) (nodes : NodesFit
 
 pub texts_make_systems : ItemsAreInRange → NamesAreWords → NumbersAreFit → ModulesAreNamed → NodesFit → RecordsAreTables → DataItemsAreFields → FullDataOpen → TextsMakeSystems
 texts_make_systems ranged words numbered bodies nodes tabled fields opened ps texts matched =
-    let seen : (m : ℕ) (p : ModuleParts) → module_of ps m ≡ Some p → IsKnown p = λ m p e. known ranged words p (texts m e) in
+    let seen : (m : ℕ) (p : ModuleParts) → module_of ps m ≡ Some p → IsKnown p = λ m p e. known ranged words p (texts m p e) in
     let table_of : (m : ℕ) (p : ModuleParts) → module_of ps m ≡ Some p → IsTable p.modes = λ m p e. table numbered bodies nodes tabled fields p (seen m p e) in
     record {
       nodes = λ m {p} e. node numbered bodies nodes tabled fields p (seen m p e);

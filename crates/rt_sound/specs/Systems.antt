@@ -21,7 +21,7 @@ pub record IsOfText (p : ModuleParts) : Type 0 where
 
 -- So is each module of the system.
 abbrev pub AreOfTexts : System → Type 0
-AreOfTexts ps = (m : ℕ) {p : ModuleParts} → module_of ps m ≡ Some p → IsOfText p
+AreOfTexts ps = (m : ℕ) (p : ModuleParts) → module_of ps m ≡ Some p → IsOfText p
 
 -- Modules of texts that match have all that the law of typed stores asks for.
 abbrev pub TextsMakeSystems : Type 0

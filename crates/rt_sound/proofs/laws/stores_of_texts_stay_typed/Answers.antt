@@ -1,5 +1,3 @@
-use Rattle.rt_kept.specs.Modules.{ModulesFit}
-use Rattle.rt_sound.specs.Systems.{TextsMakeSystems}
 use Rattle.rt_sound.proofs.Systems.{texts_make_systems}
 use Rattle.rt_sound.proofs.laws.stores_of_texts_stay_typed.Goals as goal
 
