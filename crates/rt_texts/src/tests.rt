@@ -1,3 +1,5 @@
+ghost use Rattle.std.specs.Prelude.{◌≡◌};
+
 use super::*;
 use rt_meaning::SourceTask;
 use rt_resolve::are_numbered;
