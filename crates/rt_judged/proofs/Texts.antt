@@ -153,7 +153,7 @@ module _ (rs : List RecordDef) where
   one_short h (declares.ImportedData d) found s k = k
   one_short h (declares.ImportedStacks x) found s k = k
 
-  all_short : (found : Texts) (hs : List Heading) (ds : List Declaration) → AllByRecursion ShortIn ds → AllShort found → AllShort (texts_from rs found hs ds)
+  pub all_short : (found : Texts) (hs : List Heading) (ds : List Declaration) → AllByRecursion ShortIn ds → AllShort found → AllShort (texts_from rs found hs ds)
   all_short found hs [] s k = k
   all_short found hs (d ∷ ds) s k = all_short (texts_in rs (first hs) d found) (drop (brick_count d) hs) ds s.1 (one_short (first hs) d found s.0 k)
 

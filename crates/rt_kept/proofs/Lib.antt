@@ -6,7 +6,7 @@ mod Numbers
 mod Places
 mod Stacks
 mod Terms
-mod Locals
+pub mod Locals
 mod Conditions
 mod Statements
 mod Following

@@ -1,2 +1,3 @@
+pub mod Throughout
 pub mod Meanings
 pub mod Expanded

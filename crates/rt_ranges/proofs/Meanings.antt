@@ -1,5 +1,5 @@
 -- What a piece means is in range.
-use Rattle.std.proofs.Common.{◌≡◌, ℕ, ◌+◌, ◌-◌, ◌≤◌, Bool, true, false, ◌&&◌, List, [], ◌∷◌, ◌++◌, length, map, drop, suc, take, take_while, Option, Some, None, Ok, Err, refl, subst, arith}
+use Rattle.std.proofs.Common.{◌≡◌, ℕ, ◌+◌, ◌-◌, ◌≤◌, Bool, true, false, ◌&&◌, List, [], ◌∷◌, length, map, drop, suc, take, take_while, Option, Some, None, Ok, Err, refl, subst, arith}
 use Rattle.std.specs.Prelude.{nat_le, nat_lt, ◌==◌, if◌then◌else◌}
 use Rattle.std.specs.List.{AllByRecursion, list_all, prefix_len}
 use Rattle.std.proofs.lemmas.Bool.{leb-true}
@@ -16,19 +16,15 @@ use Rattle.rt_pieces.specs.Pieces.{word_of, mark_of, radix}
 use Rattle.rt_items.specs.Meaning.{Meant, is_left_out, word_or_name, name_meant, number_meant, digits_meant, character_meant, string_meant, mark_meant, text_meant, meaning_by, meaning}
 use Rattle.rt_items.specs.Texts.{Lets, Given, failing, behind_fault, followed, parts, characters, past_blanks, strange, nothing_more, small, one_number, byte_of, or_bad, in_value, unfinished, value_in, value, values, closing, in_turn, or_fault, string_of}
 use Rattle.rt_ranges.specs.Ranges.{IsByte, KindInRange}
+use Rattle.rt_ranges.proofs.Throughout.{MeantSo, all_append}
 
 abbrev pub MeantInRange : Meant → Type 0
-MeantInRange (Ok k) = KindInRange k
-MeantInRange (Err f) = Unit {0}
+MeantInRange m = MeantSo KindInRange m
 
 -- where a test decides
 by_test : (b : Bool) (x y : Meant) → (b ≡ true → MeantInRange x) → (b ≡ false → MeantInRange y) → MeantInRange (if b then x else y)
 by_test true x y h k = h refl
 by_test false x y h k = k refl
-
-pub all_append : {A : Type 0} (P : A → Type 0) (xs ys : List A) → AllByRecursion P xs → AllByRecursion P ys → AllByRecursion P (xs ++ ys)
-all_append P [] ys h k = k
-all_append P (x ∷ xs) ys h k = (h.0, all_append P xs ys h.1 k)
 
 -- ---- the bytes of a string
 

@@ -18,9 +18,10 @@ use Rattle.rt_accepted.proofs.Sequences.{small_rest, Fine, fine_before}
 use Rattle.rt_within.proofs.Made.{stat_of, line_of, made_line}
 use Rattle.rt_kept.specs.Trees.{Started, Within, behind}
 use Rattle.rt_kept.specs.Named.{any_name, StmtNamed, SeqNamed}
+use Rattle.rt_kept.proofs.Locals.{within_self, within_more}
 use Rattle.rt_scoped.proofs.Good.{Zeroed, noted_labels}
 use Rattle.rt_scoped.proofs.Seen.{IsSeen, LevelHas, declared_has, Sees, sees_within}
-use Rattle.rt_scoped.proofs.Sets.{Sets, AllAt, Made, below_or, made_alone, made_counted, made_then, made_labelled, within_self, within_more}
+use Rattle.rt_scoped.proofs.Sets.{Sets, AllAt, Made, below_or, made_alone, made_counted, made_then, made_labelled}
 use Rattle.rt_scoped.proofs.Standing.{StandsIn, StandsInside, stands_first, stands_later, up_from, stands_marked, stands_own}
 
 -- ---- trees

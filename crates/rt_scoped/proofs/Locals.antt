@@ -32,10 +32,11 @@ use Rattle.rt_within.proofs.Locals.{noted_locals}
 use Rattle.rt_judged.proofs.Lists.{left_of, right_of}
 use Rattle.rt_kept.specs.Trees.{Started, Within, and_local}
 use Rattle.rt_kept.specs.Named.{any_name, SeqNamed}
+use Rattle.rt_kept.proofs.Locals.{within_self, within_all, within_more}
 use Rattle.rt_scoped.proofs.Good.{Zeroed, found_labels, value_named, noted_labels}
 use Rattle.rt_scoped.proofs.Judged.{Around}
 use Rattle.rt_scoped.proofs.Seen.{Sees, sees_named, sees_more}
-use Rattle.rt_scoped.proofs.Sets.{Sets, within_self, within_all, within_more}
+use Rattle.rt_scoped.proofs.Sets.{Sets}
 
 pub mode_labels : (o : Outcome Mode) (t : Tally) → (mode_or o t).1.labels ≡ t.labels
 mode_labels (Ok m) t = refl

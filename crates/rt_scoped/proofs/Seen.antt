@@ -14,8 +14,9 @@ use Rattle.rt_operands.specs.Operands.{or_else}
 use Rattle.rt_typing.specs.Agreeing.{Agree, IsThere, HasItems}
 use Rattle.rt_names.specs.Sights.{Names, Sight, holds, declared, within, innermost, with_name, scope_of, set_of, level_of, lent_name}
 use Rattle.rt_kept.specs.Trees.{Started, Within}
+use Rattle.rt_kept.proofs.Locals.{within_all}
 use Rattle.rt_seen.specs.Seen.{LocalSeen, LocalsSeen}
-use Rattle.rt_scoped.proofs.Sets.{Sets, within_all}
+use Rattle.rt_scoped.proofs.Sets.{Sets}
 
 abbrev pub Entry : Type 0
 Entry = List ℕ × Meaning

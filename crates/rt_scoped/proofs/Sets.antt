@@ -3,22 +3,10 @@ use Rattle.std.proofs.Common.{◌≡◌, ◌⊎◌, inl, inr, ℕ, zero, suc, �
 use Rattle.std.specs.Prelude.{slice_get, nat_lt}
 use Rattle.std.proofs.lemmas.Bool.Decides.{nat_tests}
 use Rattle.std.proofs.lemmas.List.{length-append}
-use Rattle.rt_judged.proofs.Lists.{or_right}
-use Rattle.rt_kept.specs.Trees.{Started, Within, and_local}
+use Rattle.rt_kept.specs.Trees.{Started}
 
 abbrev pub Sets : Type 0
 Sets = ℕ → Option Started
-
--- ---- which locals have a value
-
-pub within_self : (v : Started) → Within v v
-within_self v i e = e
-
-pub within_all : (u v w : Started) → Within u v → Within v w → Within u w
-within_all u v w h k i e = k i (h i e)
-
-pub within_more : (v : Started) (i : ℕ) → Within v (and_local v i)
-within_more v i j e = or_right (j == i) (v j) e
 
 -- ---- sets at labels
 

@@ -1,5 +1,4 @@
 pub mod Pieces
-pub mod Expanded
 pub mod Meanings
 pub mod Spells
 pub mod Declarations

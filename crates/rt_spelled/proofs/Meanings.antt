@@ -17,10 +17,10 @@ use Rattle.rt_pieces.specs.Cutting.{Piece}
 use Rattle.rt_pieces.specs.Pieces.{word_of, mark_of, radix}
 use Rattle.rt_items.specs.Meaning.{Meant, is_left_out, word_or_name, name_meant, number_meant, digits_meant, character_meant, string_meant, mark_meant, text_meant, meaning_by, meaning}
 use Rattle.rt_items.specs.Texts.{Lets, string_of}
+use Rattle.rt_ranges.proofs.Throughout.{MeantSo, items_are_so}
 use Rattle.rt_judged.proofs.Lists.{both_true}
 use Rattle.rt_typing.specs.Texts.{Other, is_word, is_word_byte, word}
 use Rattle.rt_spelled.specs.Spelled.{KindSpelled, NamesAreWords}
-use Rattle.rt_spelled.proofs.Expanded.{MeantSo, items_are_so}
 use Rattle.rt_spelled.proofs.Pieces.{GoesOn, PieceGoesOn, pieces_go_on}
 
 -- ---- a name that is no reserved word is none of a mode's words

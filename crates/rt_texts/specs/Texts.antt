@@ -7,8 +7,7 @@ use Rattle.rt_items.specs.Lets.{Items}
 use Rattle.rt_nodes.specs.declared.brick.ModuleParts.{ModuleParts}
 use Rattle.rt_operands.specs.declared.fault.CheckFault.{CheckFault}
 use Rattle.rt_pieces.specs.declared.item.Item.{Item}
-use Rattle.rt_syntax.specs.declared.fault.SyntaxFault.{SyntaxFault}
-use Rattle.rt_syntax.specs.Derives.{Refuses as RefusesItems}
+use Rattle.rt_syntax.specs.Derives.{IsRefusedAt}
 use Rattle.rt_typed.specs.Modules.{IsTyped}
 use Rattle.rt_whole.specs.Whole.{Refuses}
 use Rattle.rt_texts.specs.declared.fault.ModuleFault.{ModuleFault}
@@ -26,11 +25,11 @@ pub record IsTree (text : List ℕ) (tree : ModuleParts) : Type 0 where
   pub is_source : IsSource text source
   pub typed : IsTyped source tree
 
--- the text has items, which the grammar refuses
-pub record IsNoModule (text : List ℕ) (f : SyntaxFault) : Type 0 where
+-- the text has items that are no module, and the line is that of the first one that is unfit
+pub record IsNoModule (text : List ℕ) (line : ℕ) : Type 0 where
   pub items : List Item
   pub read : Items text (Ok items)
-  pub refused : RefusesItems module_of items 0 f
+  pub refused : IsRefusedAt module_of items 0 line
 
 -- the text has a module, in which the fault stands that counts
 pub record IsUnfit (text : List ℕ) (f : CheckFault) : Type 0 where
@@ -41,5 +40,5 @@ pub record IsUnfit (text : List ℕ) (f : CheckFault) : Type 0 where
 abbrev pub IsFaultOf : List ℕ → ModuleFault → Type 0
 IsFaultOf text Memory = Unit {0}
 IsFaultOf text (Text f) = Items text (Err f)
-IsFaultOf text (Syntax f) = IsNoModule text f
+IsFaultOf text (Syntax line) = IsNoModule text line
 IsFaultOf text (Check f) = IsUnfit text f

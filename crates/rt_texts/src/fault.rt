@@ -14,8 +14,8 @@ pub enum ModuleFault {
     #[error("{0}")]
     Text(TextFault),
     /// The items are no module.
-    #[error("{0}")]
-    Syntax(SyntaxFault),
+    #[error("syntax error in line {line}")]
+    Syntax { line: u32 },
     /// A fault stands in the module.
     #[error("{0}")]
     Check(CheckFault),
@@ -44,7 +44,7 @@ impl From<SyntaxFault> for ModuleFault {
     fn from(fault: SyntaxFault) -> ModuleFault {
         match fault {
             SyntaxFault::Memory => ModuleFault::Memory,
-            SyntaxFault::Syntax { .. } => ModuleFault::Syntax(fault),
+            SyntaxFault::Syntax { line } => ModuleFault::Syntax { line },
         }
     }
 }

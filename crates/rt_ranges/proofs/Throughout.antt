@@ -1,5 +1,5 @@
 -- What holds of the meaning of each piece holds of each item, whatever LETs do.
-use Rattle.std.proofs.Common.{ℕ, ◌+◌, Bool, true, false, List, [], ◌∷◌, length, Option, Some, None, Result, Ok, Err, subst}
+use Rattle.std.proofs.Common.{ℕ, ◌+◌, Bool, true, false, List, [], ◌∷◌, ◌++◌, length, Option, Some, None, Result, Ok, Err, subst}
 use Rattle.std.specs.Prelude.{nat_le, if◌then◌else◌}
 use Rattle.std.specs.List.{AllByRecursion}
 use Rattle.std.specs.Str.{bytes_eq}
@@ -12,7 +12,10 @@ use Rattle.rt_pieces.specs.Cutting.{Piece, End, Clean, Stops}
 use Rattle.rt_items.specs.Lets.{with_let, or_itself, replaced, items_at, is_semicolon, is_equal, name_of, Reading, with_items, at_end, Declared, LetText, with_text, text_goes_on, text_piece, let_text, declares, behind_equal, behind_name, if_named, named_by, declaration, Expands, ended, spoiled, item, too_many, declared, undeclared}
 use Rattle.rt_items.specs.Meaning.{Meant, meaning}
 use Rattle.rt_items.specs.Texts.{Lets}
-use Rattle.rt_judged.proofs.Lists.{all_joined}
+
+pub all_append : {A : Type 0} (P : A → Type 0) (xs ys : List A) → AllByRecursion P xs → AllByRecursion P ys → AllByRecursion P (xs ++ ys)
+all_append P [] ys h k = k
+all_append P (x ∷ xs) ys h k = (h.0, all_append P xs ys h.1 k)
 
 -- It holds of the item that a piece means, where it means one.
 abbrev pub MeantSo : (ItemKind → Type 0) → Meant → Type 0
@@ -60,7 +63,7 @@ module _ (K : ItemKind → Type 0) (H : Piece → Type 0) (means : (lets : Lets)
   TextSo (Err f) = Unit {0}
 
   with_text_so : (text : List ItemKind) (r : LetText) → Kinds text → TextSo r → TextSo (with_text text r)
-  with_text_so text (Ok x) h k = (all_joined K text x.0 h k.0, k.1)
+  with_text_so text (Ok x) h k = (all_append K text x.0 h k.0, k.1)
   with_text_so text (Err f) h k = tt
 
   text_test : (t : Bool) (x y : LetText) → TextSo x → TextSo y → TextSo (if t then x else y)
@@ -128,7 +131,7 @@ module _ (K : ItemKind → Type 0) (H : Piece → Type 0) (means : (lets : Lets)
   items_so n from to (k ∷ ks) h = (h.0, items_so n from to ks h.1)
 
   with_items_so : (items : List Item) (r : Reading) → AllByRecursion ItemSo items → ReadingSo r → ReadingSo (with_items items r)
-  with_items_so items (Ok others) h k = all_joined ItemSo items others h k
+  with_items_so items (Ok others) h k = all_append ItemSo items others h k
   with_items_so items (Err f) h k = tt
 
   end_so : (e : End) → ReadingSo (at_end e)
