@@ -1,6 +1,6 @@
 //! One visible step of a task that has its invisible work behind it. Where there is no memory nothing is changed.
 
-ghost use Rattle.std.specs.Prelude.{◌≡◌, ◌≢◌, ◌^◌, ◌<◌, ◌-◌, IfOk, OnOk, OnErr, Some, None, Option, ◌∷◌, [], true, false};
+ghost use Rattle.std.specs.Prelude.{◌≡◌, ◌≢◌, ◌^◌, ◌<◌, ◌-◌, IfOk, OnOk, OnErr, Ok, Some, None, Option, ◌∷◌, [], true, false};
 ghost use Rattle.rt_rules.specs.Rules as rules;
 ghost use Rattle.rt_work.specs.Stores as stores;
 ghost use Rattle.rt_work.specs.Task as work;
@@ -22,6 +22,9 @@ use rt_work::{
 use std::alloc::Global;
 use std::mem::replace;
 
+/// A visible step, and the byte that it puts out.
+type Made = Result<(Step, Option<u8>), Memory>;
+
 // What is read goes on the values.
 fn reads(
     alloc: Global,
@@ -29,7 +32,8 @@ fn reads(
     task: &mut Task,
     scene: Scene,
     place: &Location,
-) -> Result<(), Memory>
+) -> Made
+    ensures made { IfOk result (λ x. x ≡ (Step.Read, None)) }
     ensures ok { OnOk result (states.doing task.new ≡ step.Doing (step.with_todo (states.act task.old.act) (n.items scene.todo) (stores.read store.now task.old.own place.now ∷ scene.values) scene.locals) (states.acts task.old.callers) task.old.own) }
     ensures going { task.new.ended ≡ task.old.ended }
     ensures err { OnErr result (task.new ≡ task.old) }
@@ -38,15 +42,17 @@ fn reads(
     let mut scene = scene;
     scene.values.push(value)?;
     task.act.scene = scene;
-    Ok(())
+    Ok((Step::Read, None))
 }
 
 // The task goes on with another scene.
-fn goes_on(task: &mut Task, scene: Scene)
+fn goes_on(task: &mut Task, scene: Scene, step: Step) -> Made
+    ensures made { result ≡ Ok (step, None) }
     ensures doing { states.doing task.new ≡ step.Doing (states.with_scene task.old.act scene) (states.acts task.old.callers) task.old.own }
     ensures going { task.new.ended ≡ task.old.ended }
 {
     task.act.scene = scene;
+    Ok((step, None))
 }
 
 fn write_shared(alloc: Global, common: &mut Common, place: &Location, value: Datum)
@@ -82,7 +88,8 @@ fn calls(
     scene: Scene,
     f: Proc,
     args: List<Datum>,
-) -> Result<(), Memory>
+) -> Made
+    ensures made { IfOk result (λ x. x ≡ (Step.Call, None)) }
     ensures ok { OnOk result (states.doing task.new ≡ step.Doing (step.entered ((world.world modules.now).code f) f args) (states.with_scene task.old.act scene ∷ states.acts task.old.callers) task.old.own) }
     ensures going { task.new.ended ≡ task.old.ended }
     ensures err { OnErr result (task.new ≡ task.old) }
@@ -94,7 +101,7 @@ fn calls(
     };
     task.callers.push(caller)?;
     task.act = inner;
-    Ok(())
+    Ok((Step::Call, None))
 }
 
 // The values of the caller, with the result on them.
@@ -113,22 +120,20 @@ fn values_with(
 }
 
 // The caller goes on; a task without one has ended.
-fn returns(alloc: Global, task: &mut Task, answer: Option<Datum>) -> Result<(), Memory>
+fn returns(alloc: Global, task: &mut Task, answer: Option<Datum>) -> Made
     requires { task.old.ended ≡ None }
+    ensures made { IfOk result (λ x. x ≡ (Step.Return, None)) }
     ensures ok { OnOk result (states.task task.new ≡ step.returned answer (states.acts task.old.callers) task.old.own) }
     ensures err { OnErr result (task.new ≡ task.old) }
 {
     match task.callers.top() {
-        None => {
-            task.ended = Some(Ending::Over);
-            Ok(())
-        }
+        None => task.ended = Some(Ending::Over),
         Some(caller) => {
             let values = values_with(alloc, &caller.scene.values, answer)?;
             back_to_caller(task, values);
-            Ok(())
         }
     }
+    Ok((Step::Return, None))
 }
 
 // The caller goes on with other values.
@@ -149,7 +154,8 @@ fn leaps(
     task: &mut Task,
     locals: List<Datum>,
     label: u16,
-) -> Result<(), Memory>
+) -> Made
+    ensures made { IfOk result (λ x. x ≡ (Step.Jump, None)) }
     ensures ok { OnOk result (states.doing task.new ≡ step.Doing (step.with_todo (states.act task.old.act) (step.leapt ((world.world modules.now).code task.old.act.proc) label) [] locals) (states.acts task.old.callers) task.old.own) }
     ensures going { task.new.ended ≡ task.old.ended }
     ensures err { OnErr result (task.new ≡ task.old) }
@@ -160,7 +166,7 @@ fn leaps(
         values: Stack::new(alloc),
         locals,
     };
-    Ok(())
+    Ok((Step::Jump, None))
 }
 
 // ---- services
@@ -350,10 +356,11 @@ fn asks(
 }
 
 // An error that ends the task.
-fn fails(common: &mut Common, task: &mut Task, error: u16, number: u8)
+fn fails(common: &mut Common, task: &mut Task, error: u16, number: u8) -> Made
     requires runs { rules.running common.old.rules ≡ Some number }
     requires stamp { common.old.rules.stamp < 2 ^ 63 }
     requires clock { common.old.rules.clock < 2 ^ 32 - 1 }
+    ensures made { result ≡ Ok (Step.Error error, None) }
     ensures rules { common.new.rules ≡ (rules.serve common.old.rules number (Svc.Gel error)).0 }
     ensures store { common.new.store ≡ common.old.store }
     ensures taken { common.new.taken ≡ common.old.taken }
@@ -361,6 +368,7 @@ fn fails(common: &mut Common, task: &mut Task, error: u16, number: u8)
 {
     let _ = common.rules.call(Svc::Gel(error));
     task.ended = Some(Ending::Failed(error));
+    Ok((Step::Error(error), None))
 }
 
 /// The next visible step of the running task, which has the invisible work before it done in `scene`; the step and the byte
@@ -374,7 +382,7 @@ pub fn make(
     next: Next,
     number: u8,
     input: Option<u8>,
-) -> Result<(Step, Option<u8>), Memory>
+) -> Made
     requires going { task.old.ended ≡ None }
     requires runs { rules.running common.old.rules ≡ Some number }
     requires stamp { common.old.rules.stamp < 2 ^ 63 }
@@ -384,43 +392,21 @@ pub fn make(
     ensures err { OnErr result (task.new ≡ task.old) }
 {
     match next {
-        Next::Reads(place) => {
-            reads(alloc, &common.store, task, scene, &place)?;
-            Ok((Step::Read, None))
-        }
+        Next::Reads(place) => reads(alloc, &common.store, task, scene, &place),
         Next::Writes(place, value) => {
             writes(alloc, common, task, &place, value);
-            goes_on(task, scene);
-            Ok((Step::Write, None))
+            goes_on(task, scene, Step::Write)
         }
-        Next::Calls(f, args) => {
-            calls(alloc, modules, task, scene, f, args)?;
-            Ok((Step::Call, None))
-        }
-        Next::Returns(answer) => {
-            returns(alloc, task, answer)?;
-            Ok((Step::Return, None))
-        }
-        Next::Jumps => {
-            goes_on(task, scene);
-            Ok((Step::Jump, None))
-        }
-        Next::Leaps(label) => {
-            leaps(alloc, modules, task, scene.locals, label)?;
-            Ok((Step::Jump, None))
-        }
+        Next::Calls(f, args) => calls(alloc, modules, task, scene, f, args),
+        Next::Returns(answer) => returns(alloc, task, answer),
+        Next::Jumps => goes_on(task, scene, Step::Jump),
+        Next::Leaps(label) => leaps(alloc, modules, task, scene.locals, label),
         Next::Asks(request) => {
             let byte = asks(alloc, common, task, scene.todo, request, number, input)?;
             Ok((Step::Service, byte))
         }
-        Next::Recovers(_) => {
-            goes_on(task, scene);
-            Ok((Step::Write, None))
-        }
-        Next::Errors(error) => {
-            fails(common, task, error, number);
-            Ok((Step::Error(error), None))
-        }
+        Next::Recovers(_) => goes_on(task, scene, Step::Write),
+        Next::Errors(error) => fails(common, task, error, number),
         Next::Lacks => {
             task.ended = Some(Ending::Failed(0));
             Ok((Step::Jump, None))
@@ -436,7 +422,7 @@ pub fn step_task(
     task: &mut Task,
     number: u8,
     input: Option<u8>,
-) -> Result<(Step, Option<u8>), Memory>
+) -> Made
     requires runs { rules.running common.old.rules ≡ Some number }
     requires stamp { common.old.rules.stamp < 2 ^ 63 }
     requires clock { common.old.rules.clock < 2 ^ 32 - 1 }

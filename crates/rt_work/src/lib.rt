@@ -17,7 +17,6 @@ mod work;
 pub use copies::{copy_scene, copy_values};
 pub use labels::from_label;
 pub use node::{CondNode, LabelsNode, PathNode, SeqNode, StmtNode, TermNode, TermsNode};
-pub use numbers::{Share, divided, holds, one_of, turns, turns_to, two_of};
 pub use request::Request;
 pub use scene::{Env, Item, Next, Scene};
 pub use stack::Stack;

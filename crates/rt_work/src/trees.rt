@@ -35,105 +35,109 @@ pub fn give(scene: &mut Scene, value: Datum) -> Done
 }
 
 // Puts `after` on what is to be done, and on it the evaluation of a value.
-fn then_eval(scene: &mut Scene, v: &Rc<TermNode>, after: Item) -> Result<(), Memory>
+fn then_eval(scene: &mut Scene, v: &Rc<TermNode>, after: Item) -> Done
+    ensures none { IfOk result (λ o. o ≡ None) }
     ensures todo { OnOk result (n.items scene.new.todo ≡ task.Eval (n.term v.now.value) ∷ n.item after ∷ n.items scene.old.todo) }
     ensures values { scene.new.values ≡ scene.old.values }
     ensures locals { scene.new.locals ≡ scene.old.locals }
 {
     scene.todo.push(after)?;
     scene.todo.push(Item::Eval(v.clone()?))?;
-    Ok(())
+    Ok(None)
 }
 
 // The same of two values, one after the other.
-fn then_both(
-    scene: &mut Scene,
-    a: &Rc<TermNode>,
-    b: &Rc<TermNode>,
-    after: Item,
-) -> Result<(), Memory>
+fn then_both(scene: &mut Scene, a: &Rc<TermNode>, b: &Rc<TermNode>, after: Item) -> Done
+    ensures none { IfOk result (λ o. o ≡ None) }
     ensures todo { OnOk result (n.items scene.new.todo ≡ task.Eval (n.term a.now.value) ∷ task.Eval (n.term b.now.value) ∷ n.item after ∷ n.items scene.old.todo) }
     ensures values { scene.new.values ≡ scene.old.values }
     ensures locals { scene.new.locals ≡ scene.old.locals }
 {
     then_eval(scene, b, after)?;
     scene.todo.push(Item::Eval(a.clone()?))?;
-    Ok(())
+    Ok(None)
+}
+
+// Puts the evaluation of a value on what is to be done.
+fn only_eval(scene: &mut Scene, v: &Rc<TermNode>) -> Done
+    ensures none { IfOk result (λ o. o ≡ None) }
+    ensures todo { OnOk result (n.items scene.new.todo ≡ task.Eval (n.term v.now.value) ∷ n.items scene.old.todo) }
+    ensures values { scene.new.values ≡ scene.old.values }
+    ensures locals { scene.new.locals ≡ scene.old.locals }
+{
+    scene.todo.push(Item::Eval(v.clone()?))?;
+    Ok(None)
 }
 
 // Puts statements on what is to be done.
-fn then_do(scene: &mut Scene, q: &Rc<SeqNode>) -> Result<(), Memory>
+fn then_do(scene: &mut Scene, q: &Rc<SeqNode>) -> Done
+    ensures none { IfOk result (λ o. o ≡ None) }
     ensures todo { OnOk result (n.items scene.new.todo ≡ task.Do (n.seq q.now.value) ∷ n.items scene.old.todo) }
     ensures values { scene.new.values ≡ scene.old.values }
     ensures locals { scene.new.locals ≡ scene.old.locals }
 {
     scene.todo.push(Item::Do(q.clone()?))?;
-    Ok(())
+    Ok(None)
 }
 
 // Puts `after` on what is to be done, and on it that of a place.
-fn then_at(scene: &mut Scene, p: &Rc<PathNode>, after: Item) -> Result<(), Memory>
+fn then_at(scene: &mut Scene, p: &Rc<PathNode>, after: Item) -> Done
+    ensures none { IfOk result (λ o. o ≡ None) }
     ensures todo { OnOk result (n.items scene.new.todo ≡ task.At (n.path p.now.value) ∷ n.item after ∷ n.items scene.old.todo) }
     ensures values { scene.new.values ≡ scene.old.values }
     ensures locals { scene.new.locals ≡ scene.old.locals }
 {
     scene.todo.push(after)?;
     scene.todo.push(Item::At(p.clone()?))?;
-    Ok(())
+    Ok(None)
 }
 
 // The same of a place and a value.
-fn then_place(
-    scene: &mut Scene,
-    p: &Rc<PathNode>,
-    b: &Rc<TermNode>,
-    after: Item,
-) -> Result<(), Memory>
+fn then_place(scene: &mut Scene, p: &Rc<PathNode>, b: &Rc<TermNode>, after: Item) -> Done
+    ensures none { IfOk result (λ o. o ≡ None) }
     ensures todo { OnOk result (n.items scene.new.todo ≡ task.At (n.path p.now.value) ∷ task.Eval (n.term b.now.value) ∷ n.item after ∷ n.items scene.old.todo) }
     ensures values { scene.new.values ≡ scene.old.values }
     ensures locals { scene.new.locals ≡ scene.old.locals }
 {
     then_eval(scene, b, after)?;
     scene.todo.push(Item::At(p.clone()?))?;
-    Ok(())
+    Ok(None)
 }
 
 // The same of the arguments of a call.
-fn then_args(scene: &mut Scene, vs: &Rc<TermsNode>, after: Item) -> Result<(), Memory>
+fn then_args(scene: &mut Scene, vs: &Rc<TermsNode>, after: Item) -> Done
+    ensures none { IfOk result (λ o. o ≡ None) }
     ensures todo { OnOk result (n.items scene.new.todo ≡ task.Args (n.terms vs.now.value) ∷ n.item after ∷ n.items scene.old.todo) }
     ensures values { scene.new.values ≡ scene.old.values }
     ensures locals { scene.new.locals ≡ scene.old.locals }
 {
     scene.todo.push(after)?;
     scene.todo.push(Item::Args(vs.clone()?))?;
-    Ok(())
+    Ok(None)
 }
 
 // The same of a procedure's value and the arguments of its call.
-fn then_call(
-    scene: &mut Scene,
-    f: &Rc<TermNode>,
-    vs: &Rc<TermsNode>,
-    after: Item,
-) -> Result<(), Memory>
+fn then_call(scene: &mut Scene, f: &Rc<TermNode>, vs: &Rc<TermsNode>, after: Item) -> Done
+    ensures none { IfOk result (λ o. o ≡ None) }
     ensures todo { OnOk result (n.items scene.new.todo ≡ task.Eval (n.term f.now.value) ∷ task.Args (n.terms vs.now.value) ∷ n.item after ∷ n.items scene.old.todo) }
     ensures values { scene.new.values ≡ scene.old.values }
     ensures locals { scene.new.locals ≡ scene.old.locals }
 {
     then_args(scene, vs, after)?;
     scene.todo.push(Item::Eval(f.clone()?))?;
-    Ok(())
+    Ok(None)
 }
 
 // The same of a test.
-fn then_test(scene: &mut Scene, t: &Rc<CondNode>, after: Item) -> Result<(), Memory>
+fn then_test(scene: &mut Scene, t: &Rc<CondNode>, after: Item) -> Done
+    ensures none { IfOk result (λ o. o ≡ None) }
     ensures todo { OnOk result (n.items scene.new.todo ≡ task.Try (n.cond t.now.value) ∷ n.item after ∷ n.items scene.old.todo) }
     ensures values { scene.new.values ≡ scene.old.values }
     ensures locals { scene.new.locals ≡ scene.old.locals }
 {
     scene.todo.push(after)?;
     scene.todo.push(Item::Try(t.clone()?))?;
-    Ok(())
+    Ok(None)
 }
 
 fn choose_item(a: &Rc<SeqNode>, b: &Rc<SeqNode>) -> Result<Item, Memory>
@@ -187,13 +191,9 @@ pub fn seq(scene: &mut Scene, q: &SeqNode) -> Done
         SeqNode::Done => Ok(None),
         SeqNode::Then(a, rest) => {
             then_do(scene, rest)?;
-            let done = stmt(scene, a)?;
-            Ok(done)
+            stmt(scene, a)
         }
-        SeqNode::Mark(_, rest) => {
-            scene.todo.push(Item::Do(rest.clone()?))?;
-            Ok(None)
-        }
+        SeqNode::Mark(_, rest) => then_do(scene, rest),
     }
 }
 
@@ -203,60 +203,23 @@ fn stmt(scene: &mut Scene, a: &StmtNode) -> Done
     ensures lighter { IfOk result (λ o. n.BeginsLight (n.stmt a.now) scene.old scene.new o) }
 {
     match a {
-        StmtNode::Keep(i, v) => {
-            then_eval(scene, v, Item::Local(u32::from(*i)))?;
-            Ok(None)
-        }
+        StmtNode::Keep(i, v) => then_eval(scene, v, Item::Local(u32::from(*i))),
         StmtNode::Clear(i) => {
             scene.set_local(usize::from(*i), Datum::Word(0));
             Ok(None)
         }
-        StmtNode::Put(_, p, v) => {
-            then_place(scene, p, v, Item::Save)?;
-            Ok(None)
-        }
-        StmtNode::Run(v) => {
-            scene.todo.push(Item::Eval(v.clone()?))?;
-            Ok(None)
-        }
-        StmtNode::Toss(v) => {
-            then_eval(scene, v, Item::Toss)?;
-            Ok(None)
-        }
+        StmtNode::Put(_, p, v) => then_place(scene, p, v, Item::Save),
+        StmtNode::Run(v) => only_eval(scene, v),
+        StmtNode::Toss(v) => then_eval(scene, v, Item::Toss),
         StmtNode::Goto(l) => Ok(Some(Next::Leaps(*l))),
-        StmtNode::GiveBack(v) => {
-            then_eval(scene, v, Item::GiveUp)?;
-            Ok(None)
-        }
+        StmtNode::GiveBack(v) => then_eval(scene, v, Item::GiveUp),
         StmtNode::Back => Ok(Some(Next::Returns(None))),
-        StmtNode::Switch(v, labels) => {
-            let after = switch_item(labels)?;
-            then_eval(scene, v, after)?;
-            Ok(None)
-        }
-        StmtNode::Inner(q) => {
-            scene.todo.push(Item::Do(q.clone()?))?;
-            Ok(None)
-        }
-        StmtNode::If(t, a, b) => {
-            let after = choose_item(a, b)?;
-            then_test(scene, t, after)?;
-            Ok(None)
-        }
-        StmtNode::For(i, a, b, c, q) => {
-            loop_from(scene, *i, a, b, c, q)?;
-            Ok(None)
-        }
-        StmtNode::To(i, k, q) => {
-            let after = to_item(*i, q)?;
-            then_eval(scene, k, after)?;
-            Ok(None)
-        }
-        StmtNode::While(t, q) => {
-            let after = decide_item(t, q)?;
-            then_test(scene, t, after)?;
-            Ok(None)
-        }
+        StmtNode::Switch(v, labels) => then_eval(scene, v, switch_item(labels)?),
+        StmtNode::Inner(q) => then_do(scene, q),
+        StmtNode::If(t, a, b) => then_test(scene, t, choose_item(a, b)?),
+        StmtNode::For(i, a, b, c, q) => loop_from(scene, *i, a, b, c, q),
+        StmtNode::To(i, k, q) => then_eval(scene, k, to_item(*i, q)?),
+        StmtNode::While(t, q) => then_test(scene, t, decide_item(t, q)?),
         StmtNode::Recover(l) => Ok(Some(Next::Recovers(*l))),
     }
 }
@@ -269,7 +232,8 @@ fn loop_from(
     step: &Rc<TermNode>,
     end: &Rc<TermNode>,
     q: &Rc<SeqNode>,
-) -> Result<(), Memory>
+) -> Done
+    ensures none { IfOk result (λ o. o ≡ None) }
     ensures todo { OnOk result (n.items scene.new.todo ≡ task.Eval (n.term start.now.value) ∷ task.Local local ∷ task.Eval (n.term step.now.value) ∷ task.Local (local + 1) ∷ task.Eval (n.term end.now.value) ∷ task.CountFor local (n.seq q.now.value) ∷ n.items scene.old.todo) }
     ensures values { scene.new.values ≡ scene.old.values }
     ensures locals { scene.new.locals ≡ scene.old.locals }
@@ -286,20 +250,9 @@ pub fn cond(scene: &mut Scene, t: &CondNode) -> Done
     ensures lighter { IfOk result (λ o. n.Lightens (task.Try (n.cond t.now)) scene.old scene.new o) }
 {
     match t {
-        CondNode::Is(r, a, b) => {
-            then_both(scene, a, b, Item::Compare(*r))?;
-            Ok(None)
-        }
-        CondNode::Both(t, u) => {
-            let after = Item::AndThen(u.clone()?);
-            then_test(scene, t, after)?;
-            Ok(None)
-        }
-        CondNode::Either(t, u) => {
-            let after = Item::OrElse(u.clone()?);
-            then_test(scene, t, after)?;
-            Ok(None)
-        }
+        CondNode::Is(r, a, b) => then_both(scene, a, b, Item::Compare(*r)),
+        CondNode::Both(t, u) => then_test(scene, t, Item::AndThen(u.clone()?)),
+        CondNode::Either(t, u) => then_test(scene, t, Item::OrElse(u.clone()?)),
     }
 }
 
@@ -367,48 +320,19 @@ pub fn term(alloc: Global, env: &Env, scene: &mut Scene, v: &TermNode) -> Done
             let value = local_at(alloc, scene, *i)?;
             give(scene, value)
         }
-        TermNode::Get(_, p) => {
-            then_at(scene, p, Item::Fetch)?;
-            Ok(None)
-        }
+        TermNode::Get(_, p) => then_at(scene, p, Item::Fetch),
         TermNode::Ref(p) => {
             scene.todo.push(Item::At(p.clone()?))?;
             Ok(None)
         }
-        TermNode::RefRow(p, k) => {
-            then_at(scene, p, Item::Span(*k))?;
-            Ok(None)
-        }
-        TermNode::Count(p, k) => {
-            then_at(scene, p, Item::Tell(*k))?;
-            Ok(None)
-        }
-        TermNode::CountRow(v) => {
-            then_eval(scene, v, Item::Length)?;
-            Ok(None)
-        }
-        TermNode::One(o, v) => {
-            then_eval(scene, v, Item::Alter(*o))?;
-            Ok(None)
-        }
-        TermNode::Two(o, a, b) => {
-            then_both(scene, a, b, Item::Merge(*o))?;
-            Ok(None)
-        }
-        TermNode::Over(o, a, b) => {
-            then_both(scene, a, b, Item::Split(*o))?;
-            Ok(None)
-        }
-        TermNode::Apply(b, vs) => {
-            let after = enter_item(*b, vs)?;
-            then_args(scene, vs, after)?;
-            Ok(None)
-        }
-        TermNode::ApplyBy(f, vs) => {
-            let after = enter_by_item(vs)?;
-            then_call(scene, f, vs, after)?;
-            Ok(None)
-        }
+        TermNode::RefRow(p, k) => then_at(scene, p, Item::Span(*k)),
+        TermNode::Count(p, k) => then_at(scene, p, Item::Tell(*k)),
+        TermNode::CountRow(v) => then_eval(scene, v, Item::Length),
+        TermNode::One(o, v) => then_eval(scene, v, Item::Alter(*o)),
+        TermNode::Two(o, a, b) => then_both(scene, a, b, Item::Merge(*o)),
+        TermNode::Over(o, a, b) => then_both(scene, a, b, Item::Split(*o)),
+        TermNode::Apply(b, vs) => then_args(scene, vs, enter_item(*b, vs)?),
+        TermNode::ApplyBy(f, vs) => then_call(scene, f, vs, enter_by_item(vs)?),
     }
 }
 
@@ -419,11 +343,7 @@ pub fn args(scene: &mut Scene, vs: &TermsNode) -> Done
 {
     match vs {
         TermsNode::NoTerm => Ok(None),
-        TermsNode::MoreTerms(v, rest) => {
-            let after = Item::Args(rest.clone()?);
-            then_eval(scene, v, after)?;
-            Ok(None)
-        }
+        TermsNode::MoreTerms(v, rest) => then_eval(scene, v, Item::Args(rest.clone()?)),
     }
 }
 
@@ -438,21 +358,9 @@ pub fn path(alloc: Global, env: &Env, scene: &mut Scene, p: &PathNode) -> Done
             give(scene, Datum::Reference(location))
         }
         PathNode::Svc(k) => give(scene, Datum::Reference(Location::Own(*k))),
-        PathNode::FieldOf(p, _, k) => {
-            then_at(scene, p, Item::Into(*k))?;
-            Ok(None)
-        }
-        PathNode::Elem(p, v, k, _) => {
-            then_place(scene, p, v, Item::Pick(*k))?;
-            Ok(None)
-        }
-        PathNode::ElemRow(a, v, _) => {
-            then_both(scene, a, v, Item::PickRow)?;
-            Ok(None)
-        }
-        PathNode::Past(v) => {
-            scene.todo.push(Item::Eval(v.clone()?))?;
-            Ok(None)
-        }
+        PathNode::FieldOf(p, _, k) => then_at(scene, p, Item::Into(*k)),
+        PathNode::Elem(p, v, k, _) => then_place(scene, p, v, Item::Pick(*k)),
+        PathNode::ElemRow(a, v, _) => then_both(scene, a, v, Item::PickRow),
+        PathNode::Past(v) => only_eval(scene, v),
     }
 }
