@@ -16,34 +16,34 @@ pub enum CheckFault {
     #[error("out of memory")]
     Memory,
     /// A name, or a field's name, that nothing declares.
-    #[error("{0:?}: unknown name")]
+    #[error("line {}: unknown name", .0.line)]
     UnknownName(At),
     /// An operand or a link that doesn't fit.
-    #[error("{0:?}: wrong mode")]
+    #[error("line {}: wrong mode", .0.line)]
     WrongMode(At),
     /// A place that can't be assigned: a FOR variable, a brick, a record or an array.
-    #[error("{0:?}: not assignable")]
+    #[error("line {}: not assignable", .0.line)]
     NotAssignable(At),
     /// A call with too few or too many arguments.
-    #[error("{0:?}: wrong number of arguments")]
+    #[error("line {}: wrong number of arguments", .0.line)]
     WrongCount(At),
     /// A reference to a place in a local, a parameter or SVC data.
-    #[error("{0:?}: reference of a local")]
+    #[error("line {}: reference of a local", .0.line)]
     RefOfLocal(At),
     /// A part of the language that is left out, by the number of its form.
-    #[error("{at:?}: left out, form {form}")]
+    #[error("line {}: left out, form {form}", at.line)]
     LeftOut { form: u8, at: At },
     /// The second name of one scope, or a record that contains itself.
-    #[error("{0:?}: declared twice")]
+    #[error("line {}: declared twice", .0.line)]
     DeclaredTwice(At),
     /// A start that is wrong or missing, a length out of range, or too large a record or data brick.
-    #[error("{0:?}: bad start")]
+    #[error("line {}: bad start", .0.line)]
     BadStart(At),
     /// A name in GOTO or SWITCH that is no label there.
-    #[error("{0:?}: unknown label")]
+    #[error("line {}: unknown label", .0.line)]
     UnknownLabel(At),
     /// A result that is missing: at ENDPROC, or at RETURN.
-    #[error("{0:?}: no result")]
+    #[error("line {}: no result", .0.line)]
     NoResult(At),
 }
 

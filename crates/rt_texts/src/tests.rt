@@ -113,17 +113,13 @@ fn plant_runs(rt: HostRuntime) -> Result<(), Fail> {
     }
 }
 
-// Which part refuses the text, with the fault's number where it has one.
+// What is said of the text.
 fn refusal(alloc: Global, text: &[u8]) -> Result<String, Fail> {
     if text.len() > 4194304 {
         return Err("too long".into());
     }
     match typed_module(alloc, text) {
         Ok(_) => Ok(format!(in alloc; "none")?),
-        Err(ModuleFault::Check(fault)) => {
-            let number = fault.number();
-            Ok(format!(in alloc; "fault {number}")?)
-        }
         Err(fault) => Ok(format!(in alloc; "{fault}")?),
     }
 }
@@ -138,7 +134,7 @@ fn refused_texts(rt: HostRuntime) -> Result<(), Fail> {
             b"TITLE T;\nMODE ; DATA D; Q X; ENDDATA;",
             "syntax error in line 2",
         ),
-        (b"TITLE T;\nDATA D; Q X; ENDDATA;", "fault 20"),
+        (b"TITLE T;\nDATA D; Q X; ENDDATA;", "line 2: unknown name"),
     ];
     for (text, want) in cases {
         let got = refusal(alloc, text)?;
