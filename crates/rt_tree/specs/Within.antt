@@ -1,5 +1,5 @@
 -- The modules whose procedures stay within what the code of a procedure may take.
-use Rattle.std.specs.Prelude.{ℕ, ◌*◌, ◌<◌, ◌≤◌, length, Option, Some, None}
+use Rattle.std.specs.Prelude.{ℕ, ◌+◌, ◌*◌, ◌<◌, ◌≤◌, length, Option, Some, None}
 use Rattle.std.specs.List.{AllByRecursion}
 use Rattle.rt_modes.specs.declared.mode.Mode.{Mode, out-Mode}
 use Rattle.rt_nodes.specs.declared.brick.BrickSort.{BrickSort}
@@ -11,7 +11,7 @@ use Rattle.rt_nodes.specs.Scopes.{scope_of, with_locals}
 use Rattle.rt_tree.specs.Statements.{body_tree}
 use Rattle.rt_nodes.specs.Tree.{Seq}
 use Rattle.rt_nodes.specs.Typing.{Signature, signature_by}
-use Rattle.rt_tree.specs.Weights.{sequence_weight}
+use Rattle.rt_tree.specs.Weights.{unmarked, sequence_weight}
 
 -- The plain tree of a procedure of a module.
 abbrev pub tree_of : ModuleParts → ProcBody → Seq
@@ -25,13 +25,21 @@ parameters_by (Some s) = length s.parameters
 abbrev pub parameters_of : Mode → ℕ
 parameters_of m = parameters_by (signature_by (out-Mode m))
 
--- A procedure with so many parameters, of one word each. Behind the words of its nodes there are 16 for its beginning
--- and its end. A node of w words makes at most 2 w unmarked instructions, those of the support code among them.
+-- The beginning and the end of a procedure may take so many words, and make so many unmarked instructions: what the six items of its
+-- heading and its end are worth, and 16 words more.
+abbrev pub frame_words : ℕ
+frame_words = 88
+
+abbrev pub frame_unmarked : ℕ
+frame_unmarked = 144
+
+-- A procedure with so many parameters, of one word each. The arguments of a call stand on the stack, so they are among its depth.
 pub record ProcWithin (p : ModuleParts) (count : ℕ) (b : ProcBody) : Type 0 where
   pub parameters : count < 65536
   pub locals : local_words count b (tree_of p b) < 65536
   pub depth : sequence_depth (tree_of p b) < 65536
-  pub words : sequence_weight (tree_of p b) ≤ 12 * b.items
+  pub words : sequence_weight (tree_of p b) + frame_words ≤ 12 * b.items + 16
+  pub unmarked_made : unmarked (sequence_weight (tree_of p b)) + frame_unmarked ≤ 24 * b.items
 
 abbrev pub BodyWithin : ModuleParts → ℕ → Option ProcBody → Type 0
 BodyWithin p parameters None = Unit {0}

@@ -107,7 +107,7 @@ right_of false b e = absurd cc
 
 -- AND and OR alike
 record Joins (join : Cond → Cond → Cond) : Type 0 where
-  weighs : (t u : Cond) → condition_weight (join t u) ≡ 4 + (condition_weight t + condition_weight u)
+  weighs : (t u : Cond) → condition_weight (join t u) ≡ 8 + (condition_weight t + condition_weight u)
   takes : (t u : Cond) → condition_depth (join t u) ≡ max (condition_depth t) (condition_depth u)
 
 both_join : Joins Both

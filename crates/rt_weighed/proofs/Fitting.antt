@@ -50,7 +50,7 @@ use Rattle.rt_weighed.specs.Refs.{AllFew}
 
 -- ---- operators
 
-operator_small : (o : Op1) → operator_weight o ≤ 3
+operator_small : (o : Op1) → operator_weight o ≤ 12
 operator_small one.Int = omega arith
 operator_small _ = omega arith
 

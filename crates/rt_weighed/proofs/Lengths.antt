@@ -31,7 +31,7 @@ use Rattle.rt_weighed.proofs.Trees.{tree_length, tree_text}
 use Rattle.rt_weighed.specs.Parts.{ValueWithin}
 use Rattle.rt_weighed.specs.Refs.{few}
 
-length_weighs : (l : Mode-F Mode) (q : Path) → term_weight (length_path l q) ≤ 4 + path_weight q
+length_weighs : (l : Mode-F Mode) (q : Path) → term_weight (length_path l q) ≤ 17 + path_weight q
 length_weighs (Mode-F.Array n m) q = omega arith
 length_weighs _ q = omega arith
 
@@ -42,7 +42,7 @@ length_takes _ q = refl
 module _ (c : Scope) where
   -- a place whose path weighs so much, and takes so many words
   data Light (p : Place) (m : Mode) (w d : ℕ) : Type 0 where
-    light_local : (i : ℕ) → (placed c p).found ≡ Some (Variable m) → (placed c p).tree ≡ OnLocal i → 2 ≤ w → Light p m w d
+    light_local : (i : ℕ) → (placed c p).found ≡ Some (Variable m) → (placed c p).tree ≡ OnLocal i → 3 ≤ w → Light p m w d
     light_path : (b : Bool) (q : Path) → (placed c p).found ≡ Some (kept b m) → (placed c p).tree ≡ OnPath q → path_weight q ≤ w → address_depth q ≤ d → Light p m w d
 
   record ReadLight (p : Place) (w d : ℕ) : Type 0 where
@@ -63,7 +63,7 @@ module _ (c : Scope) where
 
   -- its LENGTH, where so many REFs are followed
   record Lengthy (p : Place) (w d k : ℕ) : Type 0 where
-    weight : term_weight (tree_of c (values.Length p)) ≤ w + (k + 5)
+    weight : term_weight (tree_of c (values.Length p)) ≤ w + (k + 17)
     takes : depth (tree_of c (values.Length p)) ≤ max 1 d
 
   abbrev LengthLight : Option Place → ℕ → ℕ → ℕ → Type 0
@@ -126,20 +126,24 @@ module _ (c : Scope) where
   LengthWithin k None = Unit {0}
   LengthWithin k (Some p) = ValueWithin k (tree_of c (values.Length p))
 
-  light_within : (o : Option Place) (w d k : ℕ) → w ≤ 12 * k → d ≤ k → LengthLight o w d 8 → LengthWithin (1 + k) o
+  light_within : (o : Option Place) (w d k : ℕ) → w + 9 ≤ 12 * k → d ≤ k → LengthLight o w d 8 → LengthWithin (1 + k) o
   light_within None w d k a b h = tt
   light_within (Some p) w d k a b h = record { weight = omega (arith, a, h.weight); depth = omega (arith, b, h.takes) }
 
-  place_light : (p : Place) (m : Mode) (k : ℕ) → PlaceWithin c p m k → Light p m (12 * k) k
+  place_light : (p : Place) (m : Mode) (k : ℕ) → PlaceWithin c p m k → Light p m (12 * k - 9) k
   place_light p m k (in_local i e t l) = light_local i e t (omega (arith, l))
   place_light p m k (in_path b q e t h) = light_path b q e t (omega (arith, h.weight)) h.depth
 
-  result_length : (v : Value) (m : Mode) (l : Mode-F Mode) (k : ℕ) → Has c m v → IsItem m → term_weight (tree_of c v) ≤ 12 * k → depth (tree_of c v) ≤ k → few m 8 ≡ true → out-Mode m ≡ l → LengthWithin (1 + k) (row_result l v)
+  place_some : (p : Place) (m : Mode) (k : ℕ) → PlaceWithin c p m k → (12 * k - 9) + 9 ≤ 12 * k
+  place_some p m k (in_local i e t l) = omega (arith, l)
+  place_some p m k (in_path b q e t h) = omega (arith, h.weight)
+
+  result_length : (v : Value) (m : Mode) (l : Mode-F Mode) (k : ℕ) → Has c m v → IsItem m → term_weight (tree_of c v) + 9 ≤ 12 * k → depth (tree_of c v) ≤ k → few m 8 ≡ true → out-Mode m ≡ l → LengthWithin (1 + k) (row_result l v)
   result_length v m (Mode-F.RefArray n) k h i w d s o = let tree = row_length v m n h o in record { weight = rw tree (omega (arith, w)); depth = rw tree (omega (arith, d)) }
   result_length v m (Mode-F.Ref n) k h i w d s o =
-      let light : Light (places.Through v) n (12 * k + 1) (max 1 k) = light_path false (Past (tree_of c v)) (found_led c v m n h o) (spot_led c v m n h o) (omega (arith, w)) (omega (arith, d)) in
-      let go = array_known n (places.Through v) standing.Shared (12 * k + 1) (max 1 k) 7 (one_less_few m n 8 o s) (led_shared c v m n h o i) light in
-      light_within (array_at n (places.Through v)) (12 * k) k k (omega arith) (omega arith) (more_light (array_at n (places.Through v)) (12 * k) k 8 (omega arith) go)
+      let light : Light (places.Through v) n (12 * k - 9 + 1) (max 1 k) = light_path false (Past (tree_of c v)) (found_led c v m n h o) (spot_led c v m n h o) (omega (arith, w)) (omega (arith, d)) in
+      let go = array_known n (places.Through v) standing.Shared (12 * k - 9 + 1) (max 1 k) 7 (one_less_few m n 8 o s) (led_shared c v m n h o i) light in
+      light_within (array_at n (places.Through v)) (12 * k - 9) k k (omega (arith, w)) (omega arith) (more_light (array_at n (places.Through v)) (12 * k - 9) k 8 (omega arith) go)
   result_length v m _ k h i w d s o = tt
 
   text_length : (n k : ℕ) → 1 ≤ k → Has c (mode.RefArray mode.Byte) (values.Text n) → LengthWithin (1 + k) (Some (places.Through (values.Text n)))
@@ -150,6 +154,6 @@ module _ (c : Scope) where
 
   pub length_within : (is : Is) (k : ℕ) → IsTyped c is → Within c k is → LengthWithin (1 + k) (array_in is)
   length_within (text n) k t h = text_length n k h (text_value c n ∙ rw t refl)
-  length_within (place p m st) k t h = light_within (array_at m p) (12 * k) k k (omega arith) (omega arith) (array_known m p st (12 * k) k 8 h.1 t (place_light p m k h.0))
+  length_within (place p m st) k t h = light_within (array_at m p) (12 * k - 9) k k (place_some p m k h.0) (omega arith) (array_known m p st (12 * k - 9) k 8 h.1 t (place_light p m k h.0))
   length_within (result v m) k t h = result_length v m (out-Mode m) k t.0 (value_item m t.2) (omega (arith, h.0.weight)) h.0.depth h.1 refl
   length_within _ k t h = tt

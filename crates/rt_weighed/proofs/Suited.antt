@@ -108,7 +108,7 @@ module _ (c : Scope) where
 
   -- ---- its reference
 
-  reference_weighs : (l : Mode-F Mode) (q : Path) → term_weight (reference_path l q) ≡ 2 + path_weight q
+  reference_weighs : (l : Mode-F Mode) (q : Path) → term_weight (reference_path l q) ≡ 13 + path_weight q
   reference_weighs (Mode-F.Array n m) q = refl
   reference_weighs _ q = refl
 

@@ -1,5 +1,5 @@
 -- A module stays within where the bound of a recursion is set.
-use Rattle.std.proofs.Common.{◌≡◌, ℕ, zero, suc, ◌*◌, ◌<◌, ◌≤◌, List, [], ◌∷◌, length, Some, None, refl, sym, ap, subst}
+use Rattle.std.proofs.Common.{◌≡◌, ℕ, zero, suc, ◌+◌, ◌*◌, ◌<◌, ◌≤◌, List, [], ◌∷◌, length, Some, None, refl, sym, ap, subst}
 use Rattle.std.specs.List.{AllByRecursion}
 use Rattle.rt_nodes.specs.declared.brick.Brick.{Brick}
 use Rattle.rt_nodes.specs.declared.brick.BrickSort.{BrickSort}
@@ -11,8 +11,8 @@ use Rattle.rt_nodes.specs.Tree.{Seq}
 use Rattle.rt_tree.specs.Depth.{sequence_depth, local_words}
 use Rattle.rt_tree.specs.Modules.{sort_with, bricks_with, with_most}
 use Rattle.rt_tree.specs.Statements.{body_tree}
-use Rattle.rt_tree.specs.Weights.{sequence_weight}
-use Rattle.rt_tree.specs.Within.{ProcWithin, SortWithin, parameters_of, tree_of}
+use Rattle.rt_tree.specs.Weights.{unmarked, sequence_weight}
+use Rattle.rt_tree.specs.Within.{frame_words, frame_unmarked, ProcWithin, SortWithin, parameters_of, tree_of}
 use Rattle.rt_within.specs.Laws.{BoundsStayWithin}
 
 sort_same : (most : ℕ) (s : BrickSort) → sort_of (sort_with most s) ≡ sort_of s
@@ -41,7 +41,8 @@ module _ (p : ModuleParts) (at most : ℕ) where
     parameters = h.parameters;
     locals = subst (λ (q : Seq). local_words count b q < 65536) (sym (tree_same b)) h.locals;
     depth = subst (λ (q : Seq). sequence_depth q < 65536) (sym (tree_same b)) h.depth;
-    words = subst (λ (q : Seq). sequence_weight q ≤ 12 * b.items) (sym (tree_same b)) h.words;
+    words = subst (λ (q : Seq). sequence_weight q + frame_words ≤ 12 * b.items + 16) (sym (tree_same b)) h.words;
+    unmarked_made = subst (λ (q : Seq). unmarked (sequence_weight q) + frame_unmarked ≤ 24 * b.items) (sym (tree_same b)) h.unmarked_made;
   }
 
   sort_within : (s : BrickSort) → SortWithin p s → SortWithin bounded s

@@ -1,5 +1,5 @@
 -- Statements by themselves stay within their items.
-use Rattle.std.proofs.Common.{◌≡◌, ℕ, suc, ◌+◌, ◌<◌, ◌≤◌, true, List, [], ◌∷◌, ◌++◌, length, Option, Some, None, Ok, Err, arith, refl, ap, ◌∙◌, subst}
+use Rattle.std.proofs.Common.{◌≡◌, ℕ, suc, ◌+◌, ◌*◌, ◌<◌, ◌≤◌, true, List, [], ◌∷◌, ◌++◌, length, Option, Some, None, Ok, Err, arith, refl, ap, ◌∙◌, subst}
 use Rattle.std.specs.List.{list_all}
 use Rattle.rt_grammar.specs.declared.at.At.{At}
 use Rattle.rt_grammar.specs.declared.at.Ident.{Ident}
@@ -21,6 +21,7 @@ use Rattle.rt_nodes.specs.Typing.{Placed, Valued, Spot, OnLocal, OnPath, OnRow, 
 use Rattle.rt_operands.specs.Outcomes.{Outcome, ◌>>=◌}
 use Rattle.rt_exprs.specs.Judging.{alone, target, val_target}
 use Rattle.rt_tree.specs.Depth.{depth, address_depth}
+use Rattle.rt_tree.specs.Weights.{term_weight}
 use Rattle.rt_tree.specs.Modules.{local_stands}
 use Rattle.rt_tree.specs.Statements.{Sight as Seen, call_tree, assigned_tree, step_tree, tested}
 use Rattle.rt_typing.specs.Laws.{joins_two}
@@ -38,7 +39,7 @@ use Rattle.rt_weighed.proofs.Suited.{number_within}
 use Rattle.rt_weighed.specs.Parts.{ValueWithin, CallWithin, SpotWithin, ConditionWithin, StatementWithin}
 use Rattle.rt_weighed.specs.Refs.{AllFew}
 use Rattle.rt_within.proofs.Judged.{value_judged, target_judged, val_judged, call_judged, test_judged}
-use Rattle.rt_within.proofs.Least.{as_many_names, expr_some, chain_some, cond_some}
+use Rattle.rt_within.proofs.Least.{twice_as_many_names, expr_some, chain_some, cond_some}
 use Rattle.rt_within.proofs.Made.{stat_of, made_call, made_assign, made_goto, made_back, made_return, made_switch}
 
 -- The scope of a procedure: its locals have numbers of 16 bits, their modes may stand, and few REFs stand in a row.
@@ -102,7 +103,7 @@ module _ (c : Scope) where
   goto_within : (k : ℕ) → StatementWithin 2 (stat_of c (stats.Goto k))
   goto_within k = record { weight = rw made_goto (omega arith); depth = rw made_goto (omega arith) }
 
-  switch_within : (v : Value) (ls : List ℕ) (i j : ℕ) → length ls ≤ j → ValueWithin i (valued c v).tree → StatementWithin (2 + (i + j)) (stat_of c (stats.Switch v ls))
+  switch_within : (v : Value) (ls : List ℕ) (i j : ℕ) → 2 * length ls ≤ j + 1 → ValueWithin i (valued c v).tree → StatementWithin (2 + (i + j)) (stat_of c (stats.Switch v ls))
   switch_within v ls i j l h = record { weight = rw made_switch (omega (arith, l, h.weight)); depth = rw made_switch (omega (arith, h.depth)) }
 
 -- ---- one found statement
@@ -180,7 +181,11 @@ pub int_locals : (s : Sight) (e : Expr) (t : Tally) → (int_in s e t).1.locals 
 int_locals s e t = found_locals (values.Number 0) (value_in s e mode.Int) t
 
 -- the step of a loop, with the item in front of it; it is 1 where it is left out
-pub step_stays : (c : Scope) → AllFew c → (s : Sight) (seen : Seen) → Holds c s seen → (e : Option Expr) (t : Tally) → ValueWithin (1 + behind_one e) (step_tree c (any_int_in s e t).0)
+pub record StepWithin (items : ℕ) (v : Term) : Type 0 where
+  pub weight : term_weight v ≤ 12 * items + 3
+  pub depth : depth v ≤ 1 + items
+
+pub step_stays : (c : Scope) → AllFew c → (s : Sight) (seen : Seen) → Holds c s seen → (e : Option Expr) (t : Tally) → StepWithin (behind_one e) (step_tree c (any_int_in s e t).0)
 step_stays c few s seen k None t = record { weight = omega arith; depth = omega arith }
 step_stays c few s seen k (Some e) t = let v = int_stays c few s seen k e t in record { weight = omega (arith, v.weight); depth = omega (arith, v.depth) }
 
@@ -232,5 +237,5 @@ switch_good e ns = record {
   counts = λ s t. omega (arith, ap length (labels_locals s [] ns (int_in s e t).1), ap length (int_locals s e t));
   within = λ c a s seen t k f.
       let u : Value × Tally = int_in s e t in
-      switch_within c u.0 (labels_in s [] ns u.1).0 (in_expr e) (names ns) (omega (arith, labels_many s [] ns u.1, as_many_names ns)) (int_stays c a.few s seen k e t);
+      switch_within c u.0 (labels_in s [] ns u.1).0 (in_expr e) (names ns) (omega (arith, labels_many s [] ns u.1, twice_as_many_names ns)) (int_stays c a.few s seen k e t);
 }

@@ -46,7 +46,7 @@ pub record BodyGood (p : JudgedBody) (n : ℕ) : Type 0 where
   pub within : (c : Scope) → Around c → (s : Sight) (seen : Seen) (t : Tally) → Holds c s seen → Pre (p s t).1.locals c.locals → SequenceWithin n (body_tree c (p s t).0)
 
 pub record BranchWithin (n : ℕ) (b : Cond × Seq) : Type 0 where
-  pub weight : 4 + (condition_weight b.0 + sequence_weight b.1) ≤ 12 * n
+  pub weight : 20 + (condition_weight b.0 + sequence_weight b.1) ≤ 12 * n
   pub depth : max (condition_depth b.0) (sequence_depth b.1) ≤ n
 
 pub record BranchGood (p : JudgedBranch) (n : ℕ) : Type 0 where

@@ -1,5 +1,5 @@
 -- Each expression has an item at least, and each condition three.
-use Rattle.std.proofs.Common.{◌≡◌, ℕ, ◌≤◌, ◌&&◌, Bool, true, false, List, [], ◌∷◌, length, map, arith, refl, sym, ◌∙◌}
+use Rattle.std.proofs.Common.{◌≡◌, ℕ, ◌+◌, ◌*◌, ◌≤◌, ◌&&◌, Bool, true, false, List, [], ◌∷◌, length, map, arith, refl, sym, ◌∙◌}
 use Rattle.std.specs.Prelude.{nat_le}
 use Rattle.rt_grammar.specs.declared.at.At.{At}
 use Rattle.rt_grammar.specs.declared.at.Ident.{Ident}
@@ -30,6 +30,14 @@ as_many_names (i ∷ is) = omega (arith, as_many_further is) where
   as_many_further : (is : List Ident) → length is ≤ further (map (λ i. 1) is)
   as_many_further [] = omega arith
   as_many_further (i ∷ is) = omega (arith, as_many_further is)
+
+-- with the items between them they are twice as many, but for one
+pub twice_as_many_names : (is : List Ident) → 2 * length is ≤ names is + 1
+twice_as_many_names [] = omega arith
+twice_as_many_names (i ∷ is) = omega (arith, twice_further is) where
+  twice_further : (is : List Ident) → 2 * length is ≤ further (map (λ i. 1) is)
+  twice_further [] = omega arith
+  twice_further (i ∷ is) = omega (arith, twice_further is)
 
 -- ---- expressions
 

@@ -18,7 +18,8 @@ use Rattle.rt_operands.specs.Outcomes.{Outcome}
 use Rattle.rt_tree.specs.Depth.{sequence_recovers}
 use Rattle.rt_tree.specs.Modules.{first_sight}
 use Rattle.rt_tree.specs.Statements.{Sight as Seen, closed}
-use Rattle.rt_tree.specs.Within.{tree_of}
+use Rattle.rt_tree.specs.Weights.{unmarked}
+use Rattle.rt_tree.specs.Within.{tree_of, frame_words, frame_unmarked}
 use Rattle.rt_names.specs.declared.tally.Tally.{Tally}
 use Rattle.rt_names.specs.Parts.{noted_if, mode_or}
 use Rattle.rt_names.specs.Sights.{Names, Sight, holds, within, mode_in}
@@ -73,8 +74,11 @@ recovery_fits : (n count : ℕ) (recovers : Bool) → n + 6 < 65536 → (n - cou
 recovery_fits n count true h = omega (arith, h)
 recovery_fits n count false h = omega (arith, h)
 
-weighs : (w n i items : ℕ) → w ≤ 12 * n → n + 6 ≤ i → i ≤ items → w ≤ 12 * items
+weighs : (w n i items : ℕ) → w ≤ 12 * n → n + 6 ≤ i → i ≤ items → w + frame_words ≤ 12 * items + 16
 weighs w n i items a b c = omega (arith, a, b, c)
+
+makes : (w n i items : ℕ) → w ≤ 12 * n → n + 6 ≤ i → i ≤ items → unmarked w + frame_unmarked ≤ 24 * items
+makes w n i items a b c = omega (arith, a, b, c)
 
 stays_low : (d n i items : ℕ) → d ≤ n → n + 6 ≤ i → i ≤ items → items < 65536 → d < 65536
 stays_low d n i items a b c e = omega (arith, a, b, c, e)
@@ -133,6 +137,7 @@ procedures_within p s b count sound held none most =
       locals = recovery_fits (length (procedure s b).locals) count (sequence_recovers (tree_of p (procedure s b))) (locals_low s b sound);
       depth = stays_low _ (in_body b.body) (in_procedure b) (items_of b) q.depth (body_part b) sound.parts sound.few;
       words = weighs _ (in_body b.body) (in_procedure b) (items_of b) q.weight (body_part b) sound.parts;
+      unmarked_made = makes _ (in_body b.body) (in_procedure b) (items_of b) q.weight (body_part b) sound.parts;
     } where
       below : (count n : ℕ) → count ≤ n → n + 6 < 65536 → count < 65536
       below count n a c = omega (arith, a, c)
