@@ -15,7 +15,7 @@ use rt_words::{List, Memory};
 use std::alloc::Global;
 
 /// What brick `brick`, an own or ENT procedure of the module, takes of the stack, in words. It takes time linear in the
-/// procedure.
+/// procedure, after one look at each of the module's bricks for the task's own data.
 ///
 /// # Errors
 ///

@@ -19,7 +19,7 @@ pub fn modules_fit()
 {}
 
 /// In the tree of a module in which no fault stands each procedure stays within what a procedure may take: its parameters,
-/// locals and depths, and at most 12 words of code an item.
+/// locals and depths, and at most 12 words of code and 24 unmarked instructions an item.
 pub fn modules_stay_within()
     ensures { ModulesStayWithin }
 {}

@@ -170,7 +170,7 @@ module _ (ds : List Declaration) (us : Faults) (none : (g : CheckFault) → Stan
 -- ---- so the tree is answered
 
 module _ (m : Module) (us : Faults) (led : Led m.declarations us) (none : (g : CheckFault) → Stands m.declarations us g → ⊥) where
-  never : (g : CheckFault) → Refuses m.declarations g → ⊥
+  pub never : (g : CheckFault) → Refuses m.declarations g → ⊥
   never g r = none g (subst (λ (x : Faults). Stands m.declarations x g) (same_led m.declarations us none r.led us r.are_led led) r.counts.stands)
 
   pub answered : (x : Result ModuleParts CheckFault) → IfOk x (IsTyped m) → IfErr x (λ g. UnlessMemory g (Refuses m.declarations g)) → IsAnswered (tree m us) x

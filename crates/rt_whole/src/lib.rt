@@ -6,8 +6,10 @@
 
 mod bricks;
 mod contents;
+mod laws;
 mod module;
 mod texts;
 mod walk;
 
+pub use laws::one_tree;
 pub use module::read_module;
