@@ -20,6 +20,8 @@ pub use rt_operands::{CheckFault, Level, Meaning, Scope, references_are_followed
 pub use target::{fit_call, fit_target, fit_val_target};
 
 #[cfg(test)]
+mod cases;
+#[cfg(test)]
 mod shown;
 #[cfg(test)]
 mod tests;

@@ -1,3 +1,6 @@
+use super::cases::{
+    BYTE, FRAC, INT, Made, PLACES, Part, REF, REF_REF, REFERENCES, RESULTS, WITH_OPERANDS,
+};
 use super::shown::{shown_place, shown_test, shown_value};
 use super::*;
 use indexmap::{IndexMap, IndexSet};
@@ -151,18 +154,6 @@ fn strings(alloc: Global, all: &[Item]) -> Result<IndexSet<u16>, Fail> {
     Ok(found)
 }
 
-/// What is fitted.
-#[derive(Clone, Copy)]
-enum Part<'a> {
-    /// An expression, where the mode of this spelling is wanted.
-    Value(&'a [u8]),
-    Condition,
-    Target,
-    /// A chain behind a VAL, the item before it.
-    ValTarget,
-    Call,
-}
-
 fn fault(alloc: Global, fault: CheckFault) -> Result<String, Fail> {
     let number = fault.number();
     let item = fault.item();
@@ -262,17 +253,7 @@ fn outcome(alloc: Global, part: Part<'_>, text: &[u8]) -> Result<String, Fail> {
     fitted(alloc, part, all.as_slice(), &scope)
 }
 
-const BYTE: &[u8] = b"\x01";
-
-const INT: &[u8] = b"\x02";
-
-const FRAC: &[u8] = b"\x03";
-
-const REF: &[u8] = b"\x04\x02";
-
-const REF_REF: &[u8] = b"\x04\x04\x02";
-
-const VALUES: [(&[u8], &[u8], &str); 22] = [
+const VALUES: [(&[u8], &[u8], &str); 18] = [
     // number_for_a_byte
     (BYTE, b"256", "21 at 0"),
     (BYTE, b"255", "255"),
@@ -283,7 +264,6 @@ const VALUES: [(&[u8], &[u8], &str); 22] = [
     (REF, b"SV", "24 at 0"),
     (REF, b"K", "24 at 0"),
     (REF, b"ERN", "24 at 0"),
-    (REF, b"I", "ref(item 0.0)"),
     // unknown_name
     (INT, b"TRUE", "20 at 0"),
     (INT, b"BAD", "27 at 77"),
@@ -292,9 +272,6 @@ const VALUES: [(&[u8], &[u8], &str); 22] = [
     (INT, b"R", "21 at 0"),
     (INT, b"D + STK", "21 at 0"),
     (INT, b"ERL", "25 at 0"),
-    (INT, b"PPP", "(at((at((at((item 0.5)))))))"),
-    (REF_REF, b"PP", "(item 0.4)"),
-    (REF_REF, b"P", "ref(item 0.3)"),
     (INT, b"B", "Int((item 0.1))"),
     (INT, b"PB", "Int((at((item 0.6))))"),
     (BYTE, b"I", "21 at 0"),
@@ -363,16 +340,7 @@ const CHAINS: [(&[u8], &[u8], &str); 34] = [
     (INT, b"VAL P", "(at((item 0.3)))"),
 ];
 
-const CALLS: [(&[u8], &[u8], &str); 19] = [
-    // results of mode REFk, wanted REFj
-    (INT, b"QI()", "call(proc 13)"),
-    (REF, b"QI()", "21 at 0"),
-    (INT, b"QP()", "(at(call(proc 14)))"),
-    (REF, b"QP()", "call(proc 14)"),
-    (REF_REF, b"QP()", "21 at 0"),
-    (INT, b"QPP()", "(at((at(call(proc 15)))))"),
-    (REF_REF, b"QPP()", "call(proc 15)"),
-    (REF, b"QPPP()", "(at((at(call(proc 16)))))"),
+const CALLS: [(&[u8], &[u8], &str); 11] = [
     (INT, b"QB()", "Int(call(proc 21))"),
     (FRAC, b"QB()", "21 at 0"),
     // counts
@@ -387,23 +355,15 @@ const CALLS: [(&[u8], &[u8], &str); 19] = [
     (INT, b"VAL AR", "21 at 1"),
 ];
 
-const OPERATORS: [(&[u8], &[u8], &str); 33] = [
+const OPERATORS: [(&[u8], &[u8], &str); 24] = [
     (INT, b"I + 1", "Plus((item 0.0) 1)"),
-    (INT, b"P + B", "Plus((at((item 0.3))) Int((item 0.1)))"),
-    (FRAC, b"F - PF", "Minus((item 0.2) (at((item 0.7))))"),
-    (FRAC, b"F * F", "FracTimes((item 0.2) (item 0.2))"),
     (
         FRAC,
         b"PF * QF()",
         "FracTimes((at((item 0.7))) call(proc 20))",
     ),
-    (INT, b"I * I", "Times((item 0.0) (item 0.0))"),
-    (INT, b"I * F", "21 at 2"),
-    (FRAC, b"F * I", "21 at 2"),
     (FRAC, b"F + 1", "21 at 2"),
     (INT, b"F + F", "21 at 0"),
-    (FRAC, b"F SLA B", "Sla((item 0.2) Int((item 0.1)))"),
-    (INT, b"I SRA F", "21 at 2"),
     (INT, b"I SLL 2", "Sll((item 0.0) 2)"),
     (INT, b"I SRL 2", "Srl((item 0.0) 2)"),
     (INT, b"F :/ NO", "21 at 0"),
@@ -413,7 +373,6 @@ const OPERATORS: [(&[u8], &[u8], &str); 33] = [
         b"I LAND 1 LOR 2 NEV 4",
         "Nev(Lor(Land((item 0.0) 1) 2) 4)",
     ),
-    (INT, b"F LAND F", "21 at 0"),
     (BYTE, b"I + 1", "21 at 0"),
     (INT, b"- I", "Minus((item 0.0))"),
     (FRAC, b"ABS F", "Abs((item 0.2))"),
@@ -446,7 +405,9 @@ const LENGTHS: [(&[u8], &[u8], &str); 9] = [
 #[test]
 fn chains_and_operators(rt: HostRuntime) -> Result<(), Fail> {
     let alloc = rt.alloc();
-    let tables: [&[(&[u8], &[u8], &str)]; 4] = [&CHAINS, &CALLS, &OPERATORS, &LENGTHS];
+    let tables: [&[(&[u8], &[u8], &str)]; 6] = [
+        &PLACES, &RESULTS, &CHAINS, &CALLS, &OPERATORS, &LENGTHS,
+    ];
     for table in tables {
         for (wanted, text, want) in table {
             let got = outcome(alloc, Part::Value(wanted), text)?;
@@ -456,70 +417,14 @@ fn chains_and_operators(rt: HostRuntime) -> Result<(), Fail> {
     Ok(())
 }
 
-const OTHERS: [(Part<'static>, &[u8], &str); 43] = [
+const OTHERS: [(Part<'static>, &[u8], &str); 25] = [
     (Part::Condition, b"I = 1", "Equal((item 0.0) 1)"),
-    (Part::Condition, b"F < F", "Less((item 0.2) (item 0.2))"),
-    (Part::Condition, b"I # F", "21 at 2"),
     (
         Part::Condition,
         b"B >= PB",
         "GreaterOrEqual(Int((item 0.1)) Int((at((item 0.6)))))",
     ),
     (Part::Condition, b"NO <= NA", "20 at 0"),
-    // the left side of a comparison of references
-    (Part::Condition, b"P :=: P", "Same((item 0.3) (item 0.3))"),
-    (
-        Part::Condition,
-        b"P :=: I",
-        "Same((item 0.3) ref(item 0.0))",
-    ),
-    (
-        Part::Condition,
-        b"I :#: P",
-        "Different(ref(item 0.0) (item 0.3))",
-    ),
-    (
-        Part::Condition,
-        b"PP :=: P",
-        "Same((item 0.4) ref(item 0.3))",
-    ),
-    (
-        Part::Condition,
-        b"AR :=: A",
-        "Same((item 0.12) ref(item 0.11))",
-    ),
-    (
-        Part::Condition,
-        b"A :=: AR",
-        "Same(ref(item 0.11) (item 0.12))",
-    ),
-    (
-        Part::Condition,
-        b"X :=: PX",
-        "Same(ref(item 0.8) (item 0.9))",
-    ),
-    (
-        Part::Condition,
-        b"QP() :=: P",
-        "Same(call(proc 14) (item 0.3))",
-    ),
-    (
-        Part::Condition,
-        b"G :=: PG",
-        "Same(ref(item 0.15) (item 0.16))",
-    ),
-    (Part::Condition, b"Q1 :=: PG", "21 at 0"),
-    (Part::Condition, b"1 :=: P", "21 at 0"),
-    (Part::Condition, b"QI() :=: P", "21 at 0"),
-    (Part::Condition, b"L :=: P", "24 at 0"),
-    (Part::Condition, b"K :=: P", "24 at 0"),
-    (Part::Condition, b"P :=: L", "24 at 2"),
-    // equal_strings_are_two_places
-    (
-        Part::Condition,
-        b"\"T\" :#: \"T\"",
-        "Different(text 0 text 1)",
-    ),
     (
         Part::Condition,
         b"I = 1 AND F = F OR I = 2",
@@ -555,6 +460,10 @@ fn conditions_and_targets(rt: HostRuntime) -> Result<(), Fail> {
         let got = outcome(alloc, part, text)?;
         assert_eq!(rt; got.as_str(), want);
     }
+    for (text, want) in REFERENCES {
+        let got = outcome(alloc, Part::Condition, text)?;
+        assert_eq!(rt; got.as_str(), want);
+    }
     Ok(())
 }
 
@@ -569,6 +478,29 @@ fn built(alloc: Global, pieces: &[(&[u8], usize)]) -> Result<Vec<u8>, Fail> {
         }
     }
     Ok(all)
+}
+
+fn made_shown(alloc: Global, node: &str, made: Made) -> Result<String, Fail> {
+    match made {
+        Ok(operands) => Ok(format!(in alloc; "{node}{operands}")?),
+        Err(fault) => Ok(format!(in alloc; "{fault}")?),
+    }
+}
+
+#[test]
+fn operands_of_each_mode(rt: HostRuntime) -> Result<(), Fail> {
+    let alloc = rt.alloc();
+    for (part, operators, operands) in WITH_OPERANDS {
+        for (operator, node) in operators {
+            for (left, right, made) in operands {
+                let text = built(alloc, &[(left, 1), (operator, 1), (right, 1)])?;
+                let got = outcome(alloc, part, text.as_slice())?;
+                let want = made_shown(alloc, node, *made)?;
+                assert_eq!(rt; got.as_str(), want.as_str());
+            }
+        }
+    }
+    Ok(())
 }
 
 #[test]
