@@ -1,7 +1,7 @@
 //! Modules of a few bricks.
 
 use crate::desk::{Node, body_of};
-use rt_modes::{Field, Mode, ModeTable, read_mode};
+use rt_modes::{Field, Mode, ModeTable, RecordDef, read_mode};
 use rt_tree::{Brick, BrickSort, DataStart, Kind, Local, ModuleParts, ProcBody, TypedModule};
 use rt_words::{Bytes, List, Name};
 use std::alloc::Global;
@@ -26,6 +26,11 @@ pub const TAKES_INT: &[u8] = &[9, 1, 2, 0];
 
 pub const GIVES_BYTE: &[u8] = &[9, 0, 1];
 
+pub const GIVES_INT: &[u8] = &[9, 0, 2];
+
+/// How many records a mode here may name.
+const RECORDS: u16 = 1;
+
 /// A local of a loop, in place of the spelling of its mode.
 pub const LOOP: &[u8] = &[];
 
@@ -34,7 +39,7 @@ fn name(alloc: Global, bytes: &[u8]) -> Result<Name, Fail> {
 }
 
 fn mode(alloc: Global, spelled: &[u8]) -> Result<Mode, Fail> {
-    let (mode, _) = read_mode(alloc, spelled, 0, 0)?;
+    let (mode, _) = read_mode(alloc, spelled, 0, RECORDS)?;
     Ok(mode)
 }
 
@@ -141,14 +146,23 @@ pub fn data(alloc: Global, called: &[u8], items: &[(&[u8], Start<'_>)]) -> Resul
     })
 }
 
-/// The module of these bricks and strings.
+/// The module of these bricks and strings, without records.
 pub fn module(
     alloc: Global,
     bricks: Vec<Brick>,
     strings: List<Bytes>,
 ) -> Result<TypedModule, Fail> {
+    module_over(alloc, List::new(alloc, 0)?, bricks, strings)
+}
+
+/// The module of these records, bricks and strings.
+pub fn module_over(
+    alloc: Global,
+    records: List<RecordDef>,
+    bricks: Vec<Brick>,
+    strings: List<Bytes>,
+) -> Result<TypedModule, Fail> {
     let title = name(alloc, b"T")?;
-    let records = List::new(alloc, 0)?;
     let parts = ModuleParts {
         title,
         modes: ModeTable { records },
@@ -164,6 +178,21 @@ fn field(alloc: Global, called: &[u8], spelled: &[u8]) -> Result<Field, Fail> {
     Ok(Field { name, mode })
 }
 
+fn fields_of(alloc: Global, fields: &[(&[u8], &[u8])]) -> Result<List<Field>, Fail> {
+    let mut all = List::new(alloc, fields.len())?;
+    for (called, spelled) in fields {
+        all.push(field(alloc, *called, *spelled)?)?;
+    }
+    Ok(all)
+}
+
+/// `MODE name (fields);`
+pub fn record(alloc: Global, called: &[u8], fields: &[(&[u8], &[u8])]) -> Result<RecordDef, Fail> {
+    let name = name(alloc, called)?;
+    let fields = fields_of(alloc, fields)?;
+    Ok(RecordDef { name, fields })
+}
+
 /// `kind DATA name; items ENDDATA;`, without starts.
 pub fn declared(
     alloc: Global,
@@ -172,10 +201,7 @@ pub fn declared(
     items: &[(&[u8], &[u8])],
 ) -> Result<Brick, Fail> {
     let name = name(alloc, called)?;
-    let mut fields = List::new(alloc, items.len())?;
-    for (called, spelled) in items {
-        fields.push(field(alloc, *called, *spelled)?)?;
-    }
+    let fields = fields_of(alloc, items)?;
     Ok(Brick {
         kind,
         name,

@@ -16,6 +16,8 @@ pub enum Node {
     Local(u16),
     Item(u16, u16),
     Own(u8),
+    /// A field of the last place, by its number.
+    Field(u16),
     Element,
     Through,
     Read,
@@ -36,7 +38,7 @@ pub enum Node {
     Set(u16),
     /// A label of the next statement.
     Label(u16),
-    /// A sequence inside begins.
+    /// A sequence inside begins, with the locals that stand behind if it is that of a BLOCK.
     Open,
     /// A call as a statement.
     Do,
@@ -46,6 +48,10 @@ pub enum Node {
     Answer,
     /// To the first or the second label.
     Switch(u16, u16),
+    /// `ERL := label`.
+    Recover(u16),
+    /// A sequence and its locals.
+    Block,
     /// A condition and a sequence.
     If,
     /// A condition and two sequences.
@@ -65,26 +71,31 @@ pub struct Desk {
     values: Vec<Value>,
     places: Vec<Place>,
     tests: Vec<Test>,
-    starts: List<LocalStart>,
     labels: List<u16>,
-    rows: Vec<List<Labelled>>,
+    /// The procedure's body, and the sequences inside that have begun, each with its locals.
+    bodies: Vec<Body>,
     /// How many labels stand in it.
     pub marks: u32,
 }
 
 impl Desk {
     fn new(alloc: Global) -> Result<Desk, Fail> {
-        let mut rows = Vec::new(alloc);
-        rows.push(List::new(alloc, 0)?)?;
-        Ok(Desk {
+        let mut desk = Desk {
             values: Vec::new(alloc),
             places: Vec::new(alloc),
             tests: Vec::new(alloc),
-            starts: List::new(alloc, 0)?,
             labels: List::new(alloc, 0)?,
-            rows,
+            bodies: Vec::new(alloc),
             marks: 0,
-        })
+        };
+        desk.open(alloc)?;
+        Ok(desk)
+    }
+
+    fn open(&mut self, alloc: Global) -> Result<(), Fail> {
+        let locals = List::new(alloc, 0)?;
+        let statements = List::new(alloc, 0)?;
+        Ok(self.bodies.push(Body { locals, statements })?)
     }
 
     fn value(&mut self) -> Result<Value, Fail> {
@@ -109,8 +120,12 @@ impl Desk {
         Ok(self.tests.pop().ok_or("no condition")?)
     }
 
+    fn body(&mut self) -> Result<Body, Fail> {
+        Ok(self.bodies.pop().ok_or("no sequence")?)
+    }
+
     fn row(&mut self) -> Result<List<Labelled>, Fail> {
-        Ok(self.rows.pop().ok_or("no sequence")?)
+        Ok(self.body()?.statements)
     }
 
     fn give(&mut self, value: Value) -> Result<(), Fail> {
@@ -128,9 +143,16 @@ impl Desk {
             labels,
             stat: Some(stat),
         };
-        let mut row = self.row()?;
-        row.push(line)?;
-        Ok(self.rows.push(row)?)
+        let mut body = self.body()?;
+        body.statements.push(line)?;
+        Ok(self.bodies.push(body)?)
+    }
+
+    // A local of the sequence that began last.
+    fn declare(&mut self, local: u16, start: Option<Value>) -> Result<(), Fail> {
+        let mut body = self.body()?;
+        body.locals.push(LocalStart { local, start })?;
+        Ok(self.bodies.push(body)?)
     }
 
     // So many values, the last one last.
@@ -196,6 +218,10 @@ fn place(alloc: Global, desk: &mut Desk, node: Node) -> Result<(), Fail> {
         Node::Local(i) => desk.give_place(Place::Local(i)),
         Node::Item(b, j) => desk.give_place(Place::Item(b, j)),
         Node::Own(k) => desk.give_place(Place::Svc(k)),
+        Node::Field(k) => {
+            let record = desk.boxed_place(alloc)?;
+            desk.give_place(Place::Field(record, k))
+        }
         Node::Element => {
             let subscript = desk.boxed(alloc)?;
             let array = desk.boxed_place(alloc)?;
@@ -241,20 +267,17 @@ fn two_tests(alloc: Global, desk: &mut Desk) -> Result<List<Test>, Fail> {
 // What stands in front of statements.
 fn head(alloc: Global, desk: &mut Desk, node: Node) -> Result<(), Fail> {
     match node {
-        Node::Start(local) => Ok(desk.starts.push(LocalStart { local, start: None })?),
+        Node::Start(local) => desk.declare(local, None),
         Node::Set(local) => {
             let start = Some(desk.value()?);
-            Ok(desk.starts.push(LocalStart { local, start })?)
+            desk.declare(local, start)
         }
         Node::Label(label) => {
             desk.labels.push(label)?;
             desk.marks = desk.marks.saturating_add(1);
             Ok(())
         }
-        Node::Open => {
-            let row = List::new(alloc, 0)?;
-            Ok(desk.rows.push(row)?)
-        }
+        Node::Open => desk.open(alloc),
         _ => plain(alloc, desk, node),
     }
 }
@@ -282,6 +305,7 @@ fn plain(alloc: Global, desk: &mut Desk, node: Node) -> Result<(), Fail> {
             let value = desk.value()?;
             desk.stat(Stat::Switch(value, labels))
         }
+        Node::Recover(label) => desk.stat(Stat::Recover(label)),
         _ => nested(alloc, desk, node),
     }
 }
@@ -289,6 +313,10 @@ fn plain(alloc: Global, desk: &mut Desk, node: Node) -> Result<(), Fail> {
 // The statements with a sequence inside.
 fn nested(alloc: Global, desk: &mut Desk, node: Node) -> Result<(), Fail> {
     match node {
+        Node::Block => {
+            let body = desk.body()?;
+            desk.stat(Stat::Block(body))
+        }
         Node::If => choice(alloc, desk, None),
         Node::IfElse => {
             let otherwise = Some(desk.row()?);
@@ -329,13 +357,21 @@ fn choice(alloc: Global, desk: &mut Desk, otherwise: Option<List<Labelled>>) -> 
     desk.stat(Stat::If(branches, otherwise))
 }
 
+/// The nodes of these parts.
+pub fn joined(alloc: Global, parts: &[&[Node]]) -> Result<Vec<Node>, Fail> {
+    let mut nodes = Vec::new(alloc);
+    for part in parts {
+        nodes.extend_from_slice(*part)?;
+    }
+    Ok(nodes)
+}
+
 /// The body that these nodes make, and the number of its labels.
 pub fn body_of(alloc: Global, nodes: &[Node]) -> Result<(Body, u32), Fail> {
     let mut desk = Desk::new(alloc)?;
     for node in nodes {
         value(alloc, &mut desk, *node)?;
     }
-    let statements = desk.row()?;
-    let locals = desk.starts.take();
-    Ok((Body { locals, statements }, desk.marks))
+    let body = desk.body()?;
+    Ok((body, desk.marks))
 }

@@ -1,17 +1,19 @@
 //! Frames of procedures: the figures from which what they need of the stack comes.
 
 use crate::bricks::{
-    INT, LOOP, PLAIN, REF_INT, ROW, TAKES_BYTE, TAKES_INT, THREE, declared, module, outside,
-    procedure, stream_data, supplied,
+    GIVES_INT, INT, LOOP, PLAIN, REF_INT, ROW, TAKES_BYTE, TAKES_INT, THREE, declared, module_over,
+    outside, procedure, record, stream_data, supplied,
 };
-use crate::desk::Node;
+use crate::desk::Node::{
+    self, Assign, Back, Block, Call, Compare, Count, Element, Field, If, IfElse, Item, Label,
+    Local, Number, Open, Read, Recover, Start, Through, To, Two,
+};
+use crate::desk::joined;
 use rt_frames::{Target, frame_of};
 use rt_tree::{Kind, Op1, Op2, Rel, TypedModule};
 use rt_words::{Bytes, List};
 use std::alloc::Global;
 use std::test::Fail;
-
-const GIVES_INT: &[u8] = &[9, 0, 2];
 
 const MAPS_INT: &[u8] = &[9, 1, 2, 2];
 
@@ -22,6 +24,14 @@ const TAKES_TEXT: &[u8] = &[9, 1, 5, 1, 0];
 const ROW_OF_BYTES: &[u8] = &[5, 1];
 
 const EIGHTY: &[u8] = &[6, 80, 0, 1];
+
+const REF_CELL: &[u8] = &[4, 7, 0, 0];
+
+const THREE_CELLS: &[u8] = &[6, 3, 0, 7, 0, 0];
+
+const THREE_REFS: &[u8] = &[6, 3, 0, 4, 2];
+
+const FINDS_CELL: &[u8] = &[9, 1, 2, 4, 7, 0, 0];
 
 // The bricks beside the procedure, by their numbers.
 const DIG: u16 = 1;
@@ -46,6 +56,8 @@ const D: u16 = 11;
 
 const RROUT: u16 = 12;
 
+const G: u16 = 13;
+
 /// What stands for a target, in place of the number of a brick.
 const VARIABLE: u16 = 100;
 
@@ -55,7 +67,8 @@ const ERROR: u16 = 200;
 const OUT: u8 = 4;
 
 // A module of this procedure, which is brick 0, and of what it may name. D has the items INT N, PROC(INT,INT) INT F,
-// REF INT R, REF ARRAY INT ROW and ARRAY(3) INT A.
+// REF INT R, REF ARRAY INT ROW, ARRAY(3) INT A, REF CELL C, ARRAY(3) CELL T and ARRAY(3) REF INT V, with the record
+// CELL (INT F, ARRAY(3) INT B).
 fn beside(
     alloc: Global,
     spelled: &[u8],
@@ -79,18 +92,24 @@ fn beside(
     bricks.push(stream_data(alloc)?)?;
     let line: [(&[u8], &[u8]); 2] = [(b"BUF", EIGHTY), (b"FILL", INT)];
     bricks.push(declared(alloc, Kind::Ext, b"LINEBUF", &line)?)?;
-    let items: [(&[u8], &[u8]); 5] = [
+    let items: [(&[u8], &[u8]); 8] = [
         (b"N", INT),
         (b"F", MAPS_TWO),
         (b"R", REF_INT),
         (b"ROW", ROW),
         (b"A", THREE),
+        (b"C", REF_CELL),
+        (b"T", THREE_CELLS),
+        (b"V", THREE_REFS),
     ];
     bricks.push(declared(alloc, Kind::Ext, b"D", &items)?)?;
     bricks.push(supplied(alloc, b"RROUT", TAKES_BYTE)?)?;
+    bricks.push(outside(alloc, b"G", FINDS_CELL)?)?;
+    let mut records = List::new(alloc, 1)?;
+    records.push(record(alloc, b"CELL", &[(b"F", INT), (b"B", THREE)])?)?;
     let mut strings = List::new(alloc, 1)?;
     strings.push(Bytes::from_slice(alloc, b"T=")?)?;
-    module(alloc, bricks, strings)
+    module_over(alloc, records, bricks, strings)
 }
 
 // The parameters, the locals and the greatest depth of a procedure; and the depth, the arguments and the target of each of
@@ -426,6 +445,169 @@ fn addresses_wait_below_values(rt: HostRuntime) -> Result<(), Fail> {
     let found = shown(rt.alloc(), PLAIN, &[], PLACES)?;
     let wanted = [0u16, 0, 2, 1, 1, P, 1, 1, P, 1, 1, P, 0, 1, P, 1, 1, P];
     assert_eq!(rt; found.as_slice(), wanted.as_slice());
+    Ok(())
+}
+
+// The record to which C leads.
+const CELL: &[Node] = &[Item(D, 5), Read, Through];
+
+// P(1)
+const CALL: &[Node] = &[Number(1), Call(P, 1)];
+
+const PLUS: Node = Two(Op2::Plus);
+
+// Bodies in parts, with their figures. The address of a place behind a REF takes a word, which waits below a subscript and
+// below what is assigned. That of an element of an item takes what its subscript takes, below which no word waits.
+const REACHED: [(&str, &[&[Node]], &[u16]); 8] = [
+    (
+        "N := C.F",
+        &[&[Item(D, 0)], CELL, &[Field(0), Read, Assign]],
+        &[0, 0, 1],
+    ),
+    // 1 + 1 for the call, above the address.
+    (
+        "C.F := P(1)",
+        &[CELL, &[Field(0)], CALL, &[Assign]],
+        &[0, 0, 2, 1, 1, P],
+    ),
+    // 1 + 1 for the subscript, above the address of C.B, and 1 + 1 for the call behind it.
+    (
+        "C.B(P(1)) := P(1)",
+        &[CELL, &[Field(1)], CALL, &[Element], CALL, &[Assign]],
+        &[0, 0, 2, 1, 1, P, 1, 1, P],
+    ),
+    // 1 + 1 for the subscript, and no word of it is left below the call.
+    (
+        "N := P(C.B(P(1)))",
+        &[
+            &[Item(D, 0)],
+            CELL,
+            &[Field(1)],
+            CALL,
+            &[Element, Read, Call(P, 1), Assign],
+        ],
+        &[0, 0, 2, 1, 1, P, 0, 1, P],
+    ),
+    // 1 for the subscript, and so for the element and its field; 1 + 1 for the call.
+    (
+        "T(P(1)).F := P(1)",
+        &[&[Item(D, 6)], CALL, &[Element, Field(0)], CALL, &[Assign]],
+        &[0, 0, 2, 0, 1, P, 1, 1, P],
+    ),
+    // 1 for the element, which is read, and so for the place to which it leads; 1 + 1 for the call.
+    (
+        "VAL V(P(1)) := P(1)",
+        &[
+            &[Item(D, 7)],
+            CALL,
+            &[Element, Read, Through],
+            CALL,
+            &[Assign],
+        ],
+        &[0, 0, 2, 0, 1, P, 1, 1, P],
+    ),
+    // 1 + 1 + 1 for the subscript; one word is left of it below the second call.
+    (
+        "VAL V(2 + (2 + P(1))) := P(1)",
+        &[
+            &[Item(D, 7), Number(2), Number(2)],
+            CALL,
+            &[PLUS, PLUS, Element, Read, Through],
+            CALL,
+            &[Assign],
+        ],
+        &[0, 0, 3, 2, 1, P, 1, 1, P],
+    ),
+    // 1 + 1 for the argument, and so for the call and what stands behind its result.
+    (
+        "G(2 + P(1)).F := P(1)",
+        &[
+            &[Number(2)],
+            CALL,
+            &[PLUS, Call(G, 1), Through, Field(0)],
+            CALL,
+            &[Assign],
+        ],
+        &[0, 0, 2, 1, 1, P, 0, 1, G, 1, 1, P],
+    ),
+];
+
+#[test]
+fn references_take_a_word(rt: HostRuntime) -> Result<(), Fail> {
+    let a = rt.alloc();
+    for (text, parts, wanted) in REACHED {
+        let nodes = joined(a, parts)?;
+        let found = shown(a, PLAIN, &[], nodes.as_slice())?;
+        assert_eq!(rt; found.as_slice(), wanted, "{text}");
+    }
+    Ok(())
+}
+
+// N = 0
+const TESTED: &[Node] = &[Item(D, 0), Read, Number(0), Compare(Rel::Equal)];
+
+// Bodies in parts, with their locals and figures. The second figure is the words of locals: those of all blocks added up, 3 for
+// each loop, and 4 for one ERL := L or more.
+const BLOCKS: [(&str, &[&[u8]], &[&[Node]], &[u16]); 5] = [
+    ("", &[], &[], &[0, 0, 0]),
+    // I, J and K; the comparison takes 1 + 1.
+    (
+        "IF N = 0 THEN BLOCK INT I, J; I := 1 ENDBLOCK ELSE BLOCK INT K; K := 1 ENDBLOCK END",
+        &[INT, INT, INT],
+        &[
+            TESTED,
+            &[Open, Open, Start(0), Start(1)],
+            &[Local(0), Number(1), Assign, Block],
+            &[Open, Open, Start(2)],
+            &[Local(2), Number(1), Assign, Block],
+            &[IfElse],
+        ],
+        &[0, 3, 2],
+    ),
+    // 3 for TO, I, 3 for FOR, and K.
+    (
+        "TO 2 DO BLOCK INT I; FOR J := 1 TO 2 DO BLOCK INT K; K := J ENDBLOCK REP ENDBLOCK REP",
+        &[LOOP, LOOP, LOOP, INT, LOOP, LOOP, LOOP, INT],
+        &[
+            &[Number(2), Open, Open, Start(3)],
+            &[Number(1), Number(2), Open, Open, Start(7)],
+            &[Local(7), Local(4), Read, Assign],
+            &[Block, Count(4), Block, To(0)],
+        ],
+        &[0, 8, 1],
+    ),
+    // I, and 4 once.
+    (
+        "INT I; ERL := L; IF N = 0 THEN ERL := L END; L: I := 1",
+        &[INT],
+        &[
+            &[Start(0), Recover(0)],
+            TESTED,
+            &[Open, Recover(0), If],
+            &[Label(0), Local(0), Number(1), Assign],
+        ],
+        &[0, 5, 2],
+    ),
+    // 3 for TO, and 4 wherever ERL := L stands.
+    (
+        "TO 2 DO BLOCK ERL := L ENDBLOCK REP; L: RETURN",
+        &[LOOP, LOOP, LOOP],
+        &[
+            &[Number(2), Open, Open, Recover(0), Block, To(0)],
+            &[Label(0), Back],
+        ],
+        &[0, 7, 1],
+    ),
+];
+
+#[test]
+fn locals_of_blocks_add_up(rt: HostRuntime) -> Result<(), Fail> {
+    let a = rt.alloc();
+    for (text, locals, parts, wanted) in BLOCKS {
+        let nodes = joined(a, parts)?;
+        let found = shown(a, PLAIN, locals, nodes.as_slice())?;
+        assert_eq!(rt; found.as_slice(), wanted, "{text}");
+    }
     Ok(())
 }
 

@@ -13,6 +13,8 @@ mod frames;
 mod places;
 mod run;
 #[cfg(test)]
+mod steps;
+#[cfg(test)]
 mod systems;
 
 pub use run::{Reached, are_placements, run_system, source_run};

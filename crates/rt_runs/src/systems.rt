@@ -358,15 +358,32 @@ fn facility_passed_on(rt: HostRuntime) -> Result<(), Fail> {
     Ok(())
 }
 
+// DELAY(2)
+const DELAY: &[Node] = &[Node::Number(2), Node::Call(0, 1), Node::Do];
+
 #[test]
 fn delay_without_ticks(rt: HostRuntime) -> Result<(), Fail> {
     let a = rt.alloc();
-    let nodes = [Node::Number(2), Node::Call(0, 1), Node::Do];
-    let modules = [small(a, b"DELAY", TAKES_INT, &[], &nodes)?];
+    let modules = [small(a, b"DELAY", TAKES_INT, &[], DELAY)?];
     let mut state = begin(a, &modules, &[task(1, 1)])?;
     let steps = letters(a, &mut state)?;
     assert_eq!(rt; steps.as_slice(), b"ccs".as_slice());
     assert_eq!(rt; state.ends().as_slice(), [State::Delayed(2)].as_slice());
+    Ok(())
+}
+
+// Two calls and the service; two ticks; two returns and the task's end.
+#[test]
+fn delay_with_ticks(rt: HostRuntime) -> Result<(), Fail> {
+    let a = rt.alloc();
+    let modules = [small(a, b"DELAY", TAKES_INT, &[], DELAY)?];
+    let state = begin(a, &modules, &[task(1, 1)])?;
+    let (output, ends) = outcome(a, state, &[3, 3], &[], 6)?;
+    assert_eq!(rt; output.len(), 0);
+    assert_eq!(rt; ends.as_slice(), [State::Ended].as_slice());
+    let state = begin(a, &modules, &[task(1, 1)])?;
+    let (_output, ends) = outcome(a, state, &[3], &[], 3)?;
+    assert_eq!(rt; ends.as_slice(), [State::Delayed(1)].as_slice());
     Ok(())
 }
 
