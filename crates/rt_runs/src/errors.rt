@@ -3,7 +3,7 @@
 use crate::bricks::{
     INT, PLAIN, Start, TAKES_BYTE, TAKES_INT, THREE, data, error_data, module, procedure, supplied,
 };
-use crate::desk::Node;
+use crate::desk::{Node, joined};
 use crate::systems::{begin, letters, task};
 use rt_rules::State;
 use rt_tree::{Op1, Op2, TypedModule};
@@ -24,16 +24,8 @@ fn shown(subscript: u16) -> [Node; 7] {
     ]
 }
 
-fn both_shown(alloc: Global) -> Result<Vec<Node>, Fail> {
-    let mut nodes = Vec::from_slice(alloc, &shown(3))?;
-    for node in shown(4) {
-        nodes.push(node)?;
-    }
-    Ok(nodes)
-}
-
 fn subscripts(alloc: Global) -> Result<TypedModule, Fail> {
-    let both = both_shown(alloc)?;
+    let both = joined(alloc, &[&shown(3), &shown(4)])?;
     let last = [Node::Number(90), Node::Call(0, 1), Node::Do];
     let mut bricks = Vec::new(alloc);
     bricks.push(supplied(alloc, b"RROUT", TAKES_BYTE)?)?;
@@ -91,14 +83,7 @@ fn steps_beside(
     first: &[Node],
     then: &[Node],
 ) -> Result<(Vec<u8>, Vec<State>), Fail> {
-    let mut nodes = Vec::new(alloc);
-    nodes.push(Node::Start(0))?;
-    for node in first {
-        nodes.push(*node)?;
-    }
-    for node in then {
-        nodes.push(*node)?;
-    }
+    let nodes = joined(alloc, &[&[Node::Start(0)], first, then])?;
     let modules = [beside_handler(alloc, nodes.as_slice())?];
     let mut state = begin(alloc, &modules, &[task(1, 2)])?;
     let steps = letters(alloc, &mut state)?;

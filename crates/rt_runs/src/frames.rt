@@ -5,7 +5,7 @@ use crate::bricks::{
     outside, procedure, record, stream_data, supplied,
 };
 use crate::desk::Node::{
-    self, Assign, Back, Block, Call, Compare, Count, Element, Field, If, IfElse, Item, Label,
+    self, Assign, Back, Block, Call, Compare, Count, Do, Element, Field, If, IfElse, Item, Label,
     Local, Number, Open, Read, Recover, Start, Through, To, Two,
 };
 use crate::desk::joined;
@@ -613,21 +613,14 @@ fn locals_of_blocks_add_up(rt: HostRuntime) -> Result<(), Fail> {
 
 // N := 1 :/ divisor, and then P(2 + 1 MOD divisor)
 fn divided(alloc: Global, divisor: &[Node]) -> Result<Vec<u16>, Fail> {
-    let mut nodes = Vec::from_slice(alloc, &[Node::Item(D, 0), Node::Number(1)])?;
-    nodes.extend_from_slice(divisor)?;
-    nodes.extend_from_slice(&[
-        Node::Two(Op2::Divide),
-        Node::Assign,
-        Node::Number(2),
-        Node::Number(1),
-    ])?;
-    nodes.extend_from_slice(divisor)?;
-    nodes.extend_from_slice(&[
-        Node::Two(Op2::Mod),
-        Node::Two(Op2::Plus),
-        Node::Call(P, 1),
-        Node::Do,
-    ])?;
+    let parts = [
+        &[Item(D, 0), Number(1)],
+        divisor,
+        &[Two(Op2::Divide), Assign, Number(2), Number(1)],
+        divisor,
+        &[Two(Op2::Mod), PLUS, Call(P, 1), Do],
+    ];
+    let nodes = joined(alloc, &parts)?;
     shown(alloc, PLAIN, &[], nodes.as_slice())
 }
 

@@ -8,7 +8,7 @@ use crate::bricks::{
     GIVES_BYTE, INT, LOOP, PLAIN, Start, TAKES_BYTE, TAKES_INT, data, module, outside, procedure,
     supplied,
 };
-use crate::desk::Node;
+use crate::desk::{Node, joined};
 use crate::run::{run_system, source_run};
 use rt_meaning::{SourceState, SourceTask};
 use rt_resolve::are_numbered;
@@ -291,12 +291,7 @@ fn loops_and_switch(rt: HostRuntime) -> Result<(), Fail> {
 const ECHO: &[Node] = &[Node::Call(1, 0), Node::Call(0, 1), Node::Do];
 
 fn echo(alloc: Global) -> Result<TypedModule, Fail> {
-    let mut nodes = Vec::new(alloc);
-    for _time in 0..4 {
-        for node in ECHO {
-            nodes.push(*node)?;
-        }
-    }
+    let nodes = joined(alloc, &[ECHO; 4])?;
     let mut bricks = Vec::new(alloc);
     bricks.push(supplied(alloc, b"RROUT", TAKES_BYTE)?)?;
     bricks.push(supplied(alloc, b"RRIN", GIVES_BYTE)?)?;

@@ -1,6 +1,7 @@
-ghost use Rattle.std.specs.Prelude.{◌≡◌};
+ghost use Rattle.std.specs.Prelude.{◌≡◌, ◌≤◌};
 
 use super::*;
+use rt_frames::frame_of;
 use rt_meaning::SourceTask;
 use rt_resolve::are_numbered;
 use rt_rules::State;
@@ -54,6 +55,14 @@ ELSE SECURE(KEY); FILL := FILL + 1; BUF(FILL) := B; RELEASE(KEY) END REP ENDPROC
 
 const BUFFER: &[u8] = b"TITLE BUF; ENT DATA LINEBUF; ARRAY(80) BYTE BUF; INT FILL; ENDDATA;";
 
+// RRJOB has a handler, and BARE has none.
+const OVERFLOW: &[u8] = b"TITLE A; SVC DATA RRERR; LABEL ERL; INT ERN; PROC(INT) ERP; ENDDATA;
+SVC PROC(BYTE) RROUT; EXT PROC(INT) IWRT; ENT STACK ST 100;
+PROC H(INT N); RROUT('E') ENDPROC;
+ENT PROC RRJOB(); ERP := H; IWRT(32767+1); IWRT(-32768 :/ -1) ENDPROC;
+ENT PROC BARE(); IWRT(32767+1); IWRT(-32768 :/ -1) ENDPROC;
+";
+
 fn typed(alloc: Global, text: &[u8]) -> Result<TypedModule, Fail> {
     if text.len() > 4194304 {
         return Err("too long".into());
@@ -70,11 +79,11 @@ fn placements(alloc: Global) -> Result<Vec<u64>, Fail> {
     Ok(all)
 }
 
-fn task(brick: u16, priority: u8) -> SourceTask
+fn task(module: u16, brick: u16, priority: u8) -> SourceTask
     ensures { result.priority ≡ priority }
 {
     SourceTask {
-        root: (3, brick),
+        root: (module, brick),
         priority,
     }
 }
@@ -85,7 +94,7 @@ fn plant(alloc: Global, placements: &[u64]) -> Result<Option<Reached>, Fail> {
         typed(alloc, BUFFER)?,
         typed(alloc, PLANT)?,
     ];
-    let tasks = [task(13, 1), task(14, 2), task(15, 3)];
+    let tasks = [task(3, 13, 1), task(3, 14, 2), task(3, 15, 3)];
     if placements.len() > 1000 || !are_numbered(&modules) {
         return Err("too large".into());
     }
@@ -93,7 +102,7 @@ fn plant(alloc: Global, placements: &[u64]) -> Result<Option<Reached>, Fail> {
 }
 
 #[test]
-fn plant_runs(rt: HostRuntime) -> Result<(), Fail> {
+fn plant_log(rt: HostRuntime) -> Result<(), Fail> {
     let alloc = rt.alloc();
     let placements = placements(alloc)?;
     match plant(alloc, placements.as_slice())? {
@@ -111,6 +120,67 @@ fn plant_runs(rt: HostRuntime) -> Result<(), Fail> {
             Ok(())
         }
     }
+}
+
+// The run of so many steps of a task over this root of the module that overflows.
+fn overflow(alloc: Global, root: u16, steps: u64) -> Result<Reached, Fail>
+    requires { steps ≤ 1000 }
+{
+    let modules = [typed(alloc, LIBRARY)?, typed(alloc, OVERFLOW)?];
+    if !are_numbered(&modules) {
+        return Err("too large".into());
+    }
+    let run = run_system(alloc, &modules, &[task(2, root, 10)], &[], &[], steps)?;
+    Ok(run.ok_or("no such run")?)
+}
+
+// OUT takes 4 steps: a read, and call, service and return of RROUT. DIG takes 2, and 6 where it puts a digit out. So IWRT takes
+// 2 + 4 + 5 * 6 = 36 for -32768, and 2 + 4 * 2 + 6 = 16 for 0. With the handler there are the call of the root, the write of
+// ERP, 36, the read of ERP, the call of H, 3 for RROUT, the return of H, 16, the return of the root and the end: 62 steps.
+// Without it there are the call of the root, 36, the read of ERP, and call and service of RRGEL: 40.
+#[test]
+fn overflow_goes_to_handler(rt: HostRuntime) -> Result<(), Fail> {
+    let alloc = rt.alloc();
+    let handled = overflow(alloc, 5, 62)?;
+    assert_eq!(rt; handled.output.as_slice(), b"-32768E0".as_slice());
+    assert_eq!(rt; handled.state.ends().as_slice(), [State::Ended].as_slice());
+    let bare = overflow(alloc, 6, 40)?;
+    assert_eq!(rt; bare.output.as_slice(), b"-32768".as_slice());
+    assert_eq!(rt; bare.state.ends().as_slice(), [State::Failed(3)].as_slice());
+    Ok(())
+}
+
+// How many points there are in a procedure that divides by this divisor.
+fn points(alloc: Global, divisor: &str) -> Result<usize, Fail> {
+    let text = format!(in alloc;
+        "TITLE T; DATA D; INT N; ENDDATA; PROC P(); N := 1 :/ {divisor} ENDPROC;"
+    )?;
+    let module = typed(alloc, text.as_bytes())?;
+    if !module.is_procedure(1) {
+        return Err("no procedure".into());
+    }
+    let frame = frame_of(alloc, &module, 1)?;
+    Ok(frame.calls.len())
+}
+
+// A number item is one in parentheses too; one behind a sign isn't, nor is a sum.
+#[test]
+fn divisors_in_parentheses_are_numbers(rt: HostRuntime) -> Result<(), Fail> {
+    let cases = [
+        ("7", 0),
+        ("(7)", 0),
+        ("((7))", 0),
+        ("(0)", 1),
+        ("(65535)", 1),
+        ("+7", 1),
+        ("-1", 1),
+        ("(3 + 4)", 1),
+        ("N", 1),
+    ];
+    for (divisor, wanted) in cases {
+        assert_eq!(rt; points(rt.alloc(), divisor)?, wanted, "{divisor}");
+    }
+    Ok(())
 }
 
 // What is said of the text.
