@@ -10,4 +10,8 @@ mod check;
 pub use check::check_module;
 
 #[cfg(test)]
+mod faults;
+#[cfg(test)]
+mod shown;
+#[cfg(test)]
 mod tests;

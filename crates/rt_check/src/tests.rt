@@ -1,32 +1,39 @@
 use super::*;
-use rt_bricks::parse_module;
+use crate::faults::{
+    BAD_STARTS, DECLARED_TWICE, LEFT_OUT, NO_RESULTS, PLACES, Row, SEVERAL, UNKNOWN_LABELS,
+    UNKNOWN_NAMES, WORKED, WRONG_MODES,
+};
+use crate::shown::shown_module;
+use rt_bricks::{Module, parse_module};
 use rt_items::items;
 use rt_operands::CheckFault;
-use rt_pieces::Item;
 use std::alloc::Global;
 use std::test::Fail;
 
-// The number of bricks and strings of the typed module, or the fault with its line.
-fn checked(alloc: Global, text: &[u8]) -> Result<String, Fail> {
+// The module of a text, where it is one.
+fn module(alloc: Global, text: &str) -> Result<Option<Module>, Fail> {
     if text.len() > 4194304 {
-        return Ok(format!(in alloc; "too long")?);
+        return Err("too long".into());
     }
-    match items(alloc, text) {
-        Ok(all) => judged(alloc, all.as_slice()),
-        Err(_) => Ok(format!(in alloc; "no items")?),
+    let all = items(alloc, text.as_bytes()).ok().ok_or("no items")?;
+    Ok(parse_module(alloc, all.as_slice()).ok())
+}
+
+// The number of bricks and strings of the typed module, or the fault with its line.
+fn checked(alloc: Global, text: &str) -> Result<String, Fail> {
+    match module(alloc, text)? {
+        Some(found) => judged(alloc, &found),
+        None => Ok(format!(in alloc; "no module")?),
     }
 }
 
-fn judged(alloc: Global, all: &[Item]) -> Result<String, Fail> {
-    match parse_module(alloc, all) {
-        Ok(found) => match check_module(alloc, &found) {
-            Ok(typed) => {
-                let (bricks, strings) = (typed.bricks().len(), typed.strings().len());
-                Ok(format!(in alloc; "{bricks} {strings}")?)
-            }
-            Err(fault) => told(alloc, fault),
-        },
-        Err(_) => Ok(format!(in alloc; "no module")?),
+fn judged(alloc: Global, found: &Module) -> Result<String, Fail> {
+    match check_module(alloc, found) {
+        Ok(typed) => {
+            let (bricks, strings) = (typed.bricks().len(), typed.strings().len());
+            Ok(format!(in alloc; "{bricks} {strings}")?)
+        }
+        Err(fault) => told(alloc, fault),
     }
 }
 
@@ -44,219 +51,148 @@ fn told(alloc: Global, fault: CheckFault) -> Result<String, Fail> {
     }
 }
 
+// The rows that are answered otherwise.
+fn differing(alloc: Global, rows: &[Row]) -> Result<String, Fail> {
+    let mut out = String::new(alloc);
+    for (text, want) in rows {
+        let got = checked(alloc, text)?;
+        if got.as_str() != *want {
+            out.push_str(&format!(in alloc; "{got} for {want} in {text}\n")?)?;
+        }
+    }
+    Ok(out)
+}
+
 // How many bricks and strings each typed module has.
-const TYPED: &[(&[u8], &str)] = &[
-    (b"TITLE T;", "0 0"),
+const TYPED: &[Row] = &[
+    ("TITLE T;", "0 0"),
     (
-        b"TITLE BUF; ENT DATA LINEBUF; ARRAY(80) BYTE BUF; INT FILL; ENDDATA;",
+        "TITLE BUF; ENT DATA LINEBUF; ARRAY(80) BYTE BUF; INT FILL; ENDDATA;",
         "1 0",
     ),
     // inner names hide outer ones, also of another kind; labels are seen in their sequence and inside it
     (
-        b"TITLE T; DATA D; INT X; ENDDATA; PROC P(INT X); L: BLOCK REF INT X := SHARED; VAL X := 1; L: GOTO L ENDBLOCK; X := 2; GOTO L ENDPROC; DATA E; INT SHARED; ENDDATA;",
+        "TITLE T; DATA D; INT X; ENDDATA; PROC P(INT X); L: BLOCK REF INT X := SHARED; VAL X := 1; L: GOTO L ENDBLOCK; X := 2; GOTO L ENDPROC; DATA E; INT SHARED; ENDDATA;",
         "3 0",
     ),
     // a local hides a parameter
-    (b"TITLE T; PROC P(INT A); INT B; INT A; ENDPROC;", "1 0"),
-    // a local is seen behind its own start, so that this X is the item
+    ("TITLE T; PROC P(INT A); INT B; INT A; ENDPROC;", "1 0"),
+    // one name in many scopes: title, field, parameter, local, variables of two loops, labels of three sequences
     (
-        b"TITLE T; DATA D; INT X; ENDDATA; PROC P(); INT X := X; X := X + 1 ENDPROC;",
+        "TITLE T; MODE T (INT T); MODE U (INT T, P); DATA D; T X; ENDDATA; PROC P(INT P, A); INT A; FOR A := 1 TO 2 DO FOR A := 1 TO 2 DO A: GOTO A REP REP; A: BLOCK A: GOTO A ENDBLOCK ENDPROC;",
         "2 0",
     ),
-    // a result by both ways of an IF, and behind an empty statement with a label
+    // a local is seen behind its own start, so that this X is the item
     (
-        b"TITLE T; PROC F(INT A) INT; IF A = 1 THEN RETURN 1 ELSE RETURN 2 END ENDPROC;",
+        "TITLE T; DATA D; INT X; ENDDATA; PROC P(); INT X := X; X := X + 1 ENDPROC;",
+        "2 0",
+    ),
+    // a result by both ways of an IF
+    (
+        "TITLE T; PROC F(INT A) INT; IF A = 1 THEN RETURN 1 ELSE RETURN 2 END ENDPROC;",
         "1 0",
     ),
-    (b"TITLE T; PROC P(); GOTO L; L: ENDPROC;", "1 0"),
+    // a result by three ways, with empty statements behind them
+    (
+        "TITLE T; PROC F(INT A) INT; IF A = 1 THEN RETURN 1; ELSEIF A = 2 THEN L: GOTO L ELSE BLOCK RETURN 2; ENDBLOCK END; ; ENDPROC;",
+        "1 0",
+    ),
+    // a label before an empty statement
+    ("TITLE T; PROC P(); GOTO L; L: ENDPROC;", "1 0"),
     // records that lead to one another, and data with starts, copies and strings
     (
-        b"TITLE T; MODE A (REF B X), B (INT Y, REF A Z);",
+        "TITLE T; MODE A (REF B X), B (INT Y, REF A Z);",
         "no module",
     ),
     (
-        b"TITLE T; MODE A (REF B X); MODE B (INT Y, REF A Z); DATA D; A P := (Q); B Q := (1, P); ARRAY(3) INT V := (1, 2(2)); ARRAY(2) BYTE S := \"ab\"; REF ARRAY BYTE R := \"c\"; ENDDATA;",
+        "TITLE T; MODE A (REF B X, PROC(REF A) REF B Y); MODE B (INT Y, ARRAY(2) REF ARRAY A Z);",
+        "0 0",
+    ),
+    (
+        "TITLE T; MODE A (REF B X); MODE B (INT Y, REF A Z); DATA D; A P := (Q); B Q := (1, P); ARRAY(3) INT V := (1, 2(2)); ARRAY(2) BYTE S := \"ab\"; REF ARRAY BYTE R := \"c\"; ENDDATA;",
         "1 1",
+    ),
+    // starts at their limits, copies that fill fields and elements, references into records and arrays
+    (
+        "TITLE T; MODE R (INT A, B, C); MODE Q (REF INT P, R S); DATA D; BYTE B := +255; INT I := -32768, J := 65535, K := 7(1); FRAC F := 5; R X := (7(3)), Y := (1, 2(2)); ARRAY(4) INT V := (1(2), -2(2))(1); ARRAY(3) R W := ((1, 2, 3)(3)); REF INT M := V(4), N := W(3).C; REF ARRAY INT O := V; REF REF INT U := M; Q Z := (X.B, (1(3))); PROC(INT) G := E; REF ARRAY BYTE L := \"abc\"; ARRAY(3) BYTE H := \"abc\"; ENDDATA; PROC E(INT A); ENDPROC;",
+        "2 1",
+    ),
+    // EXT and SVC data need no starts, and items of EXT data have references
+    (
+        "TITLE T; EXT DATA E; ARRAY(3) INT A; REF INT R; PROC() V; ENDDATA; SVC DATA S; REF INT Q; ENDDATA; DATA D; REF INT P := A(3); ENDDATA;",
+        "3 0",
+    ),
+    // records and data bricks of exactly 57,344 bytes, and the longest stack
+    (
+        "TITLE T; MODE R (ARRAY(8191) INT A, B, C, ARRAY(4095) INT E); DATA D; R X; ENDDATA; EXT DATA F; R Y; ENDDATA; ENT STACK S 28672;",
+        "3 0",
+    ),
+    (
+        "TITLE T; DATA D; BYTE B; ARRAY(8191) INT A, C, E; ARRAY(4094) INT F; ENDDATA;",
+        "1 0",
     ),
 ];
 
 #[test]
 fn typed_modules(rt: HostRuntime) -> Result<(), Fail> {
-    let alloc = rt.alloc();
-    for (text, want) in TYPED {
-        let got = checked(alloc, text)?;
-        assert_eq!(rt; got.as_str(), *want);
+    assert_eq!(rt; differing(rt.alloc(), TYPED)?.as_str(), "");
+    Ok(())
+}
+
+// Typed modules as texts.
+const SHOWN: &[Row] = &[
+    // hello
+    (
+        "TITLE HELLO; SVC PROC(BYTE) RROUT; ENT STACK ST 20; ENT PROC RRJOB(); RROUT('H'); RROUT('I'); RROUT(10) ENDPROC;",
+        "HELLO: Svc RROUT PROC; Ent ST STACK 20; Ent RRJOB PROC 20 call 0 72 call 0 73 call 0 10;",
+    ),
+    // each name of a line is a brick; strings count through starts and bodies, but for one that starts an ARRAY BYTE
+    (
+        "TITLE N; MODE LINK (INT K, REF CELL C); SVC PROC(INT) WAIT, SIGNAL; SVC DATA RRSIO; PROC() BYTE IN; PROC(BYTE) OUT; ENDDATA; EXT STACK S, U; EXT PROC(REF ARRAY BYTE) TWRT; EXT DATA E; INT X, Y; BYTE Z; ENDDATA; DATA D; REF ARRAY BYTE A := \"a\", B := \"b\"; ARRAY(3) BYTE C := \"ccc\"; REF INT F := Y; PROC(INT) G := SIGNAL; ENDDATA; PROC P(); REF ARRAY BYTE Q := \"d\"; TWRT(\"\"); WAIT(1); TWRT(\"d\") ENDPROC; MODE CELL (BYTE B); ENT STACK V 5; DATA H; ARRAY(2) REF ARRAY BYTE J := (\"e\", \"f\"); ENDDATA; ENT PROC R(); TWRT(\"g\") ENDPROC;",
+        "N: LINK MODE 2; CELL MODE 1; Svc WAIT PROC; Svc SIGNAL PROC; Svc RRSIO DATA 2; Ext S STACK 0; Ext U STACK 0; Ext TWRT PROC; Ext E DATA 3; Own D DATA 5 text 0 text 1 list 3 99 99 99 place 6 1 proc 1; Own P PROC 27 text 2 call 5 text 3 call 0 1 call 5 text 4; Ent V STACK 5; Own H DATA 1 list 2 text 5 text 6; Ent R PROC 10 call 5 text 7; <a> <b> <d> <> <d> <e> <f> <g>",
+    ),
+];
+
+// What is shown of the typed module of a text.
+fn shown(alloc: Global, text: &str) -> Result<String, Fail> {
+    let found = module(alloc, text)?.ok_or("no module")?;
+    match check_module(alloc, &found) {
+        Ok(typed) => shown_module(alloc, &typed),
+        Err(fault) => told(alloc, fault),
+    }
+}
+
+#[test]
+fn bricks_and_strings_in_order(rt: HostRuntime) -> Result<(), Fail> {
+    for (text, want) in SHOWN {
+        assert_eq!(rt; shown(rt.alloc(), text)?.as_str(), *want);
     }
     Ok(())
 }
 
-// The faults of expressions and of modes, each with its line.
-const EXPRESSIONS: &[(&[u8], &str)] = &[
-    (
-        b"TITLE T;\nPROC P(); INT X;\nX := TRUE ENDPROC;",
-        "20 LINE 3",
-    ),
-    (
-        b"TITLE T;\nMODE R (INT A);\nDATA D; R X; ENDDATA;\nPROC P();\nX.B := 1 ENDPROC;",
-        "20 LINE 5",
-    ),
-    (b"TITLE T;\nDATA D;\nQ X; ENDDATA;", "20 LINE 3"),
-    (
-        b"TITLE T;\nPROC P(); BYTE B;\nB := 256 ENDPROC;",
-        "21 LINE 3",
-    ),
-    (b"TITLE T; PROC P();\nRETURN(1) ENDPROC;", "21 LINE 2"),
-    // a link on what has none, and a chain alone that is no call
-    (
-        b"TITLE T; PROC P(); INT X;\nX := X\n.A ENDPROC;",
-        "21 LINE 3",
-    ),
-    (b"TITLE T; PROC P(); INT X;\nX ENDPROC;", "21 LINE 2"),
-    (
-        b"TITLE T; PROC P(); FOR I := 1 TO 2 DO\nI := 1 REP ENDPROC;",
-        "22 LINE 2",
-    ),
-    (b"TITLE T; PROC P();\nP := 1 ENDPROC;", "22 LINE 2"),
-    (
-        b"TITLE T; MODE R (INT A); DATA D; R X; ENDDATA; PROC P();\nX := 1 ENDPROC;",
-        "22 LINE 2",
-    ),
-    (
-        b"TITLE T; DATA D; ARRAY(2) INT X; ENDDATA; PROC P();\nX := 1 ENDPROC;",
-        "22 LINE 2",
-    ),
-    (
-        b"TITLE T; PROC Q(INT A); ENDPROC;\nPROC P();\nQ(1, 2) ENDPROC;",
-        "23 LINE 3",
-    ),
-    (
-        b"TITLE T; PROC Q(INT A); ENDPROC;\nPROC P();\nQ() ENDPROC;",
-        "23 LINE 3",
-    ),
-    (
-        b"TITLE T; PROC P(); INT X;\nREF INT Q := X; ENDPROC;",
-        "24 LINE 2",
-    ),
-    (
-        b"TITLE T; PROC P(INT X);\nREF INT Q := X; ENDPROC;",
-        "24 LINE 2",
-    ),
-    (
-        b"TITLE T; SVC DATA RRSIO; PROC() BYTE IN; PROC(BYTE) OUT; ENDDATA;\nDATA D;\nREF PROC() BYTE R := IN; ENDDATA;",
-        "24 LINE 3",
-    ),
-    (b"TITLE T;\nDATA D;\nLABEL L; ENDDATA;", "25 LINE 3 FORM 1"),
-    (
-        b"TITLE T; SVC DATA RRERR; LABEL ERL; INT ERN; PROC(INT) ERP; ENDDATA;\nPROC P(); L:\nERL := L ENDPROC;",
-        "25 LINE 3 FORM 2",
-    ),
-    (
-        b"TITLE T; SVC DATA RRERR; LABEL ERL; INT N; ENDDATA;\nPROC P();\nRETURN(ERL) ENDPROC;",
-        "25 LINE 3 FORM 2",
-    ),
-    (
-        b"TITLE T; MODE R (INT A); PROC P();\nPROC(R) Q; ENDPROC;",
-        "25 LINE 2 FORM 3",
-    ),
-    (
-        b"TITLE T; PROC P();\nARRAY(2) INT X; ENDPROC;",
-        "25 LINE 2 FORM 3",
-    ),
-    (
-        b"TITLE T; PROC P(\nARRAY(2) INT X); ENDPROC;",
-        "25 LINE 2 FORM 3",
-    ),
-    (
-        b"TITLE T; MODE R (INT A); PROC P(\nR X); ENDPROC;",
-        "25 LINE 2 FORM 3",
-    ),
-    (
-        b"TITLE T; DATA D;\nARRAY(2) ARRAY(2) INT A; ENDDATA;",
-        "25 LINE 2 FORM 4",
-    ),
-    (
-        b"TITLE T; EXT DATA D; REF ARRAY\nARRAY(2) INT A; ENDDATA;",
-        "25 LINE 2 FORM 4",
-    ),
-    (
-        b"TITLE T; EXT DATA D; PROC(\nARRAY(2) INT) A; ENDDATA;",
-        "25 LINE 2 FORM 4",
-    ),
-];
-
 #[test]
-fn faults_of_expressions(rt: HostRuntime) -> Result<(), Fail> {
-    let alloc = rt.alloc();
-    for (text, want) in EXPRESSIONS {
-        let got = checked(alloc, text)?;
-        assert_eq!(rt; got.as_str(), *want);
+fn worked_faults(rt: HostRuntime) -> Result<(), Fail> {
+    for (name, (text, want)) in WORKED {
+        assert_eq!(rt; checked(rt.alloc(), text)?.as_str(), *want, "{name}");
     }
     Ok(())
 }
 
-// The faults of declarations and of statements, and of several the one that counts.
-const DECLARATIONS: &[(&[u8], &str)] = &[
-    (b"TITLE T; DATA D; INT X;\nINT Y, X; ENDDATA;", "26 LINE 2"),
-    (b"TITLE T; PROC P(); INT A;\nINT A; ENDPROC;", "26 LINE 2"),
-    (b"TITLE T; PROC P(); L: ;\nL: ENDPROC;", "26 LINE 2"),
-    (b"TITLE T; MODE R (INT A,\nA);", "26 LINE 2"),
-    (
-        b"TITLE T; MODE A (REF A X);\nMODE B (A X, C Y);\nMODE C (ARRAY(2) D Z);\nMODE D (INT N, B W);",
-        "26 LINE 2",
-    ),
-    (
-        b"TITLE T; DATA D;\nARRAY(8191) INT A, B,\nC,\nE; ENDDATA;",
-        "27 LINE 4",
-    ),
-    (
-        b"TITLE T; DATA D; ARRAY(2) INT\nA := (1, 2, 3); ENDDATA;",
-        "27 LINE 2",
-    ),
-    (b"TITLE T; DATA D; REF INT\nR; ENDDATA;", "27 LINE 2"),
-    (b"TITLE T; PROC P(); REF INT\nR; ENDPROC;", "27 LINE 2"),
-    (b"TITLE T; DATA D; ARRAY(0) INT\nA; ENDDATA;", "27 LINE 2"),
-    (b"TITLE T; STACK\nS 28673;", "27 LINE 2"),
-    (b"TITLE T; PROC P();\nGOTO L ENDPROC;", "28 LINE 2"),
-    (
-        b"TITLE T; PROC P(); BLOCK L: ENDBLOCK;\nGOTO L ENDPROC;",
-        "28 LINE 2",
-    ),
-    (
-        b"TITLE T; PROC P(INT I);\nSWITCH I OF L, M; L: ENDPROC;",
-        "28 LINE 2",
-    ),
-    (b"TITLE T; PROC F() INT;\nENDPROC;", "29 LINE 2"),
-    (
-        b"TITLE T; PROC F(INT A) INT; IF A = 1 THEN RETURN 1 END\nENDPROC;",
-        "29 LINE 2",
-    ),
-    (b"TITLE T; PROC F() INT;\nRETURN ENDPROC;", "29 LINE 2"),
-    // of several the one at the least item, in whichever order they are met
-    (
-        b"TITLE T; DATA D; INT\nX := Q; ENDDATA; DATA E;\nLABEL L; ENDDATA;",
-        "20 LINE 2",
-    ),
-    (
-        b"TITLE T; PROC P();\nX := 1 ENDPROC; MODE R (R A);\nSTACK S 0;",
-        "20 LINE 2",
-    ),
-    (
-        b"TITLE T; MODE\nR (R A); PROC P();\nX := 1 ENDPROC; STACK S 0;",
-        "26 LINE 2",
-    ),
-    // what leads to an unfit record has its fault
-    (
-        b"TITLE T; PROC P();\nREF A X := Y; ENDPROC; MODE A (REF B X); MODE\nB (B Y);",
-        "26 LINE 3",
-    ),
-];
-
 #[test]
-fn faults_of_declarations(rt: HostRuntime) -> Result<(), Fail> {
-    let alloc = rt.alloc();
-    for (text, want) in DECLARATIONS {
-        let got = checked(alloc, text)?;
-        assert_eq!(rt; got.as_str(), *want);
+fn faults_of_each_number(rt: HostRuntime) -> Result<(), Fail> {
+    let tables = [
+        UNKNOWN_NAMES,
+        WRONG_MODES,
+        PLACES,
+        LEFT_OUT,
+        DECLARED_TWICE,
+        BAD_STARTS,
+        UNKNOWN_LABELS,
+        NO_RESULTS,
+        SEVERAL,
+    ];
+    for table in tables {
+        assert_eq!(rt; differing(rt.alloc(), table)?.as_str(), "");
     }
     Ok(())
 }
@@ -285,7 +221,7 @@ fn two_hundred_names(rt: HostRuntime) -> Result<(), Fail> {
     ];
     for (line, want) in cases {
         let text = of_two_hundred(alloc, line)?;
-        let got = checked(alloc, text.as_bytes())?;
+        let got = checked(alloc, text.as_str())?;
         assert_eq!(rt; got.as_str(), want);
     }
     Ok(())
