@@ -1,11 +1,15 @@
 use Rattle.std.proofs.Common.{refl}
+use Rattle.rt_work.proofs.Calls.{after_none}
 use Rattle.rt_work.proofs.trees.path.Goals as goal
 
-pub returns-in_ok-then_at-in-FieldOf-clause-does : goal.returns-in_ok-then_at-in-FieldOf-clause-does
-returns-in_ok-then_at-in-FieldOf-clause-does c = rw (c.in_ok-then_at-in-FieldOf.ensures.todo, c.in_ok-then_at-in-FieldOf.ensures.values, c.in_ok-then_at-in-FieldOf.ensures.locals, c.in-FieldOf.is) refl
+pub returns-in-FieldOf-clause-does : goal.returns-in-FieldOf-clause-does
+returns-in-FieldOf-clause-does c =
+    after_none _ _ c.then_at.ensures.none c.then_at.ensures.todo (λ todo. rw (todo, c.then_at.ensures.values, c.then_at.ensures.locals, c.in-FieldOf.is) refl)
 
-pub returns-in_ok-then_place-in-Elem-clause-does : goal.returns-in_ok-then_place-in-Elem-clause-does
-returns-in_ok-then_place-in-Elem-clause-does c = rw (c.in_ok-then_place-in-Elem.ensures.todo, c.in_ok-then_place-in-Elem.ensures.values, c.in_ok-then_place-in-Elem.ensures.locals, c.in-Elem.is) refl
+pub returns-in-Elem-clause-does : goal.returns-in-Elem-clause-does
+returns-in-Elem-clause-does c =
+    after_none _ _ c.then_place.ensures.none c.then_place.ensures.todo (λ todo. rw (todo, c.then_place.ensures.values, c.then_place.ensures.locals, c.in-Elem.is) refl)
 
-pub returns-in_ok-then_both-in-ElemRow-clause-does : goal.returns-in_ok-then_both-in-ElemRow-clause-does
-returns-in_ok-then_both-in-ElemRow-clause-does c = rw (c.in_ok-then_both-in-ElemRow.ensures.todo, c.in_ok-then_both-in-ElemRow.ensures.values, c.in_ok-then_both-in-ElemRow.ensures.locals, c.in-ElemRow.is) refl
+pub returns-in-ElemRow-clause-does : goal.returns-in-ElemRow-clause-does
+returns-in-ElemRow-clause-does c =
+    after_none _ _ c.then_both.ensures.none c.then_both.ensures.todo (λ todo. rw (todo, c.then_both.ensures.values, c.then_both.ensures.locals, c.in-ElemRow.is) refl)
