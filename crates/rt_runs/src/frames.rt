@@ -549,6 +549,7 @@ const TESTED: &[Node] = &[Item(D, 0), Read, Number(0), Compare(Rel::Equal)];
 // Bodies in parts, with their locals and figures. The second figure is the words of locals: those of all blocks added up, 3 for
 // each loop, and 4 for one ERL := L or more.
 const BLOCKS: [(&str, &[&[u8]], &[&[Node]], &[u16]); 5] = [
+    // No statement and no local.
     ("", &[], &[], &[0, 0, 0]),
     // I, J and K; the comparison takes 1 + 1.
     (
