@@ -184,16 +184,21 @@ fn module(
     })
 }
 
-/// The greeting: `RROUT('H'); RROUT('I'); RROUT(10)` as a root, behind the procedure that it calls and its stack.
+/// The supplied procedure, a stack, and a root without locals that has so many labels.
+fn with_root(alloc: Global, labels: u32, statements: List<Labelled>) -> Result<ModuleParts, Fail> {
+    let root = procedure(alloc, PLAIN, &[], labels, statements)?;
+    let mut bricks = outer_bricks(alloc)?;
+    bricks.push(brick(alloc, Kind::Ent, b"RRJOB", root)?)?;
+    module(alloc, List::new(alloc, 0)?, bricks, List::new(alloc, 0)?)
+}
+
+/// `RROUT('H'); RROUT('I'); RROUT(10)`
 fn hello(alloc: Global) -> Result<ModuleParts, Fail> {
     let mut statements = List::new(alloc, 3)?;
     for byte in [72, 73, 10] {
         statements.push(labelled(alloc, &[], call(alloc, 0, &[byte])?)?)?;
     }
-    let root = procedure(alloc, PLAIN, &[], 0, statements)?;
-    let mut bricks = outer_bricks(alloc)?;
-    bricks.push(brick(alloc, Kind::Ent, b"RRJOB", root)?)?;
-    module(alloc, List::new(alloc, 0)?, bricks, List::new(alloc, 0)?)
+    with_root(alloc, 0, statements)
 }
 
 /// What the workshop has at one place. Modes stand by their spelling.
@@ -526,10 +531,7 @@ fn nested(alloc: Global, inner: Line, outer: Line) -> Result<ModuleParts, Fail> 
     };
     let mut statements = one(alloc, labelled(alloc, &[0], Stat::Block(block))?)?;
     statements.push(marked(alloc, 1, outer)?)?;
-    let root = procedure(alloc, PLAIN, &[], 3, statements)?;
-    let mut bricks = outer_bricks(alloc)?;
-    bricks.push(brick(alloc, Kind::Ent, b"RRJOB", root)?)?;
-    module(alloc, List::new(alloc, 0)?, bricks, List::new(alloc, 0)?)
+    with_root(alloc, 3, statements)
 }
 
 /// A statement in the block and one behind it, and whether both fit.
