@@ -46,13 +46,13 @@ fn reads(
 }
 
 // The task goes on with another scene.
-fn goes_on(task: &mut Task, scene: Scene, step: Step) -> Made
-    ensures made { result ≡ Ok (step, None) }
+fn goes_on(task: &mut Task, scene: Scene, kind: Step) -> Made
+    ensures made { result ≡ Ok (kind, None) }
     ensures doing { states.doing task.new ≡ step.Doing (states.with_scene task.old.act scene) (states.acts task.old.callers) task.old.own }
     ensures going { task.new.ended ≡ task.old.ended }
 {
     task.act.scene = scene;
-    Ok((step, None))
+    Ok((kind, None))
 }
 
 fn write_shared(alloc: Global, common: &mut Common, place: &Location, value: Datum)
