@@ -1,14 +1,15 @@
--- Each visible step looks at the store at one location at most, and changes it at one.
-use Rattle.std.proofs.Common.{◌≡◌, ◌≢◌, ◌⊎◌, List, [], ◌∷◌, refl, ap, inl, inr}
+-- Each visible step looks at the store at one location and leaves it, or changes it at one and doesn't look at it.
+use Rattle.std.proofs.Common.{◌≡◌, ◌≢◌, List, [], ◌∷◌, refl, ap, inl, inr}
 use Rattle.rt_nodes.specs.declared.store.Datum.{Datum}
-use Rattle.rt_nodes.specs.declared.store.Location.{Location}
+use Rattle.rt_nodes.specs.declared.step.Step.{Step}
 use Rattle.rt_nodes.specs.declared.step.Step.TheVariants as step
 use Rattle.rt_rules.specs.declared.service.Outcome.{Outcome}
-use Rattle.rt_work.specs.Stores.{Store, read, write, erp}
+use Rattle.rt_work.specs.Stores.{Store, erp}
 use Rattle.rt_work.specs.Task.{Next, Reads, Writes, Calls, Returns, Jumps, Leaps, Asks, Recovers, Errors, Lacks}
 use Rattle.rt_resolve.specs.World.{World}
-use Rattle.rt_meaning.specs.Step.{Act, Task, Over, Failed, Doing, with_todo, act, next_of, task_step}
-use Rattle.rt_meaning.specs.Laws.{AnswersServe, own_of, ReadsOne, WritesOne}
+use Rattle.rt_meaning.specs.Step.{Act, Task, Over, Failed, Doing, After, with_todo, act, next_of, request}
+use Rattle.rt_meaning.specs.Run.{Served, moved_by, serve}
+use Rattle.rt_meaning.specs.Laws.{AnswersServe, Alike, OneAccess, StepsAccessOne}
 
 act_answers : (w : World) (x : Next) (a : Act) (cs : List Act) (own : List Datum) (S : Store) (o p : Outcome) → (act w x a cs own S o).step ≢ step.Service → act w x a cs own S o ≡ act w x a cs own S p
 act_answers w (Reads q todo vs ls) a cs own S o p ne = refl
@@ -27,43 +28,31 @@ answers_serve w Over S o p ne = refl
 answers_serve w (Failed n) S o p ne = refl
 answers_serve w (Doing a cs own) S o p ne = act_answers w (next_of w a) a cs own S o p ne
 
--- the same task and step for two stores
-Alike : (w : World) (x : Next) (a : Act) (cs : List Act) (own : List Datum) (o : Outcome) → Location → Type 0
-Alike w x a cs own o q =
-    (S R : Store) → read S own q ≡ read R own q → ((act w x a cs own S o).task ≡ (act w x a cs own R o).task) × ((act w x a cs own S o).step ≡ (act w x a cs own R o).step)
+-- ---- one access
 
-act_reads : (w : World) (x : Next) (a : Act) (cs : List Act) (own : List Datum) (o : Outcome) → (q : Location) × Alike w x a cs own o q
-unfolding Alike
-act_reads w (Reads q todo vs ls) a cs own o = (q, λ S R e. (ap (λ (d : Datum). Doing (with_todo a todo (d ∷ vs) ls) cs own) e, refl))
-act_reads w (Writes q v todo vs ls) a cs own o = (erp, λ S R e. (refl, refl))
-act_reads w (Calls f args todo vs ls) a cs own o = (erp, λ S R e. (refl, refl))
-act_reads w (Returns v) a cs own o = (erp, λ S R e. (refl, refl))
-act_reads w (Jumps todo vs ls) a cs own o = (erp, λ S R e. (refl, refl))
-act_reads w (Leaps l ls) a cs own o = (erp, λ S R e. (refl, refl))
-act_reads w (Asks r todo) a cs own o = (erp, λ S R e. (refl, refl))
-act_reads w (Recovers l todo vs ls) a cs own o = (erp, λ S R e. (refl, refl))
-act_reads w (Errors n) a cs own o = (erp, λ S R e. (refl, refl))
-act_reads w Lacks a cs own o = (erp, λ S R e. (refl, refl))
+alike_by : (s : Served) (a b : After) → a.task ≡ b.task → a.step ≡ b.step → Alike (moved_by s a) (moved_by s b)
+alike_by s a b t k = record { rules = refl; taken = refl; task = t; step = k; byte = refl }
 
-pub reads_one : ReadsOne
-unfolding Alike
-reads_one w Over o = (erp, λ S R e. (refl, refl))
-reads_one w (Failed n) o = (erp, λ S R e. (refl, refl))
-reads_one w (Doing a cs own) o = act_reads w (next_of w a) a cs own o
+-- what makes the same task of every store, and leaves the store
+looks_nowhere : (s : Served) (own : List Datum) (t : Task) (k : Step) → OneAccess (λ S. moved_by s (record { task = t; store = S; step = k })) own
+looks_nowhere s own t k = (erp, inl (record { stays = λ S. refl; alike = λ S R e. alike_by s _ _ refl refl }))
 
-act_writes : (w : World) (x : Next) (a : Act) (cs : List Act) (own : List Datum) (S : Store) (o : Outcome) → ((act w x a cs own S o).store ≡ S) ⊎ (((act w x a cs own S o).step ≡ step.Write) × ((p : Location) × ((d : Datum) × ((act w x a cs own S o).store ≡ write S p d))))
-act_writes w (Reads q todo vs ls) a cs own S o = inl refl
-act_writes w (Writes q v todo vs ls) a cs own S o = inr (refl, (q, (v, refl)))
-act_writes w (Calls f args todo vs ls) a cs own S o = inl refl
-act_writes w (Returns v) a cs own S o = inl refl
-act_writes w (Jumps todo vs ls) a cs own S o = inl refl
-act_writes w (Leaps l ls) a cs own S o = inl refl
-act_writes w (Asks r todo) a cs own S o = inl refl
-act_writes w (Recovers l todo vs ls) a cs own S o = inl refl
-act_writes w (Errors n) a cs own S o = inl refl
-act_writes w Lacks a cs own S o = inl refl
+act_accesses : (w : World) (x : Next) (a : Act) (cs : List Act) (own : List Datum) (s : Served) → OneAccess (λ S. moved_by s (act w x a cs own S s.outcome)) own
+act_accesses w (Reads q todo vs ls) a cs own s =
+    (q, inl (record { stays = λ S. refl; alike = λ S R e. alike_by s _ _ (ap (λ (d : Datum). Doing (with_todo a todo (d ∷ vs) ls) cs own) e) refl }))
+act_accesses w (Writes q v todo vs ls) a cs own s =
+    (q, inr (v, record { written = λ S. refl; kind = λ S. refl; alike = λ S R. alike_by s _ _ refl refl }))
+act_accesses w (Calls f args todo vs ls) a cs own s = looks_nowhere s own _ _
+act_accesses w (Returns v) a cs own s = looks_nowhere s own _ _
+act_accesses w (Jumps todo vs ls) a cs own s = looks_nowhere s own _ _
+act_accesses w (Leaps l ls) a cs own s = looks_nowhere s own _ _
+act_accesses w (Asks r todo) a cs own s = looks_nowhere s own _ _
+act_accesses w (Recovers l todo vs ls) a cs own s = looks_nowhere s own _ _
+act_accesses w (Errors n) a cs own s = looks_nowhere s own _ _
+act_accesses w Lacks a cs own s = looks_nowhere s own _ _
 
-pub writes_one : WritesOne
-writes_one w Over S o = inl refl
-writes_one w (Failed n) S o = inl refl
-writes_one w (Doing a cs own) S o = act_writes w (next_of w a) a cs own S o
+pub steps_access_one : StepsAccessOne
+steps_access_one w Over r taken i input = looks_nowhere (serve r taken i input (request w Over)) [] _ _
+steps_access_one w (Failed n) r taken i input = looks_nowhere (serve r taken i input (request w (Failed n))) [] _ _
+steps_access_one w (Doing a cs own) r taken i input =
+    act_accesses w (next_of w a) a cs own (serve r taken i input (request w (Doing a cs own)))

@@ -6,10 +6,9 @@ pub fn answers_serve()
     ensures { law.AnswersServe }
 {}
 
-/// A step looks at one location at most, and changes one at most.
+/// A step looks at one location of the store and changes none, or changes one and looks at none.
 pub fn steps_access_one_location()
-    ensures reads { law.ReadsOne }
-    ensures writes { law.WritesOne }
+    ensures { law.StepsAccessOne }
 {}
 
 /// A step of one task changes no control, activation or supplied data of another, and a tick none at all.

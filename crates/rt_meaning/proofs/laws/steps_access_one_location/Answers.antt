@@ -1,5 +1,5 @@
-use Rattle.rt_meaning.proofs.Steps.{reads_one, writes_one}
+use Rattle.rt_meaning.proofs.Steps.{steps_access_one}
 use Rattle.rt_meaning.proofs.laws.steps_access_one_location.Goals as goal
 
 pub returns : goal.returns
-returns c = record { reads = reads_one; writes = writes_one }
+returns c = steps_access_one
