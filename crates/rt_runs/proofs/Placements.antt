@@ -8,7 +8,7 @@ abbrev pub ticks_to : List ℕ → ℕ → ℕ
 ticks_to ps zero = ticks_after ps 0
 ticks_to ps (suc k) = ticks_to ps k + ticks_after ps (suc k)
 
-abbrev one_if : Bool → ℕ
+abbrev pub one_if : Bool → ℕ
 one_if true = 1
 one_if false = 0
 
@@ -20,14 +20,14 @@ if_one : (b : Bool) (n : ℕ) → (if b then suc n else n) ≡ one_if b + n
 if_one true n = omega arith
 if_one false n = omega arith
 
-after_cons : (p : ℕ) (ps : List ℕ) (s : ℕ) → ticks_after (p ∷ ps) s ≡ one_if (p == s) + ticks_after ps s
+pub after_cons : (p : ℕ) (ps : List ℕ) (s : ℕ) → ticks_after (p ∷ ps) s ≡ one_if (p == s) + ticks_after ps s
 after_cons p ps s = if_one (p == s) (ticks_after ps s)
 
 to_cons : (p : ℕ) (ps : List ℕ) (k : ℕ) → ticks_to (p ∷ ps) k ≡ hit p k + ticks_to ps k
 to_cons p ps zero = after_cons p ps 0
 to_cons p ps (suc k) = omega (arith, to_cons p ps k, after_cons p ps (suc k))
 
-no_hit : (b : Bool) → (b ≡ true → ⊥) → one_if b ≡ 0
+pub no_hit : (b : Bool) → (b ≡ true → ⊥) → one_if b ≡ 0
 no_hit true f = absurd (f refl)
 no_hit false f = refl
 
