@@ -30,6 +30,13 @@ five_at_most false = omega arith
 pub read_small : (m : Mode) → read_weight m ≤ 5
 read_small m = five_at_most (is_byte m)
 
+one_at_least : (b : Bool) → 1 ≤ (if b then 5 else 1)
+one_at_least true = omega arith
+one_at_least false = omega arith
+
+pub read_some : (m : Mode) → 1 ≤ read_weight m
+read_some m = one_at_least (is_byte m)
+
 pub ref_reads : (n : Mode) → read_weight (mode.Ref n) ≡ 1
 ref_reads n =
     let o : out-Mode (mode.Ref n) ≡ Mode-F.Ref n = search the_lemmas in

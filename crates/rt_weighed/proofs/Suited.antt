@@ -25,7 +25,7 @@ use Rattle.rt_operands.proofs.Following.{becomes_follows}
 use Rattle.rt_tree.specs.Depth.{depth, address_depth}
 use Rattle.rt_tree.specs.Weights.{read_weight, term_weight, path_weight}
 use Rattle.rt_typing.proofs.Suiting.{Has, PlaceIs, IsTyped, or_some, ok_is, read_has}
-use Rattle.rt_weighed.proofs.Followed.{tree_of, local_read, path_read, Grown, followed_grows, becomes_grown, read_small, ref_reads}
+use Rattle.rt_weighed.proofs.Followed.{tree_of, local_read, path_read, Grown, followed_grows, becomes_grown, read_small, read_some, ref_reads}
 use Rattle.rt_weighed.proofs.Rows.{refs_few}
 use Rattle.rt_weighed.proofs.Trees.{tree_local, tree_number, tree_text, tree_proc, tree_reference, tree_monadic}
 use Rattle.rt_weighed.specs.Parts.{ValueWithin, CallWithin, PathWithin}
@@ -68,7 +68,7 @@ module _ (c : Scope) where
 
   pub read_within : (p : Place) (m : Mode) (k : ℕ) → PlaceWithin p m k → ReadWithin p m k
   read_within p m k (in_local i e t l) = record {
-    weight = rw (local_read c p i t) (omega (arith, l));
+    weight = rw (local_read c p i t) (omega (arith, l, read_some m));
     depth = rw (local_read c p i t) l;
     some = l;
   }
