@@ -10,7 +10,7 @@ mod check;
 pub use check::check_module;
 
 #[cfg(test)]
-mod faults;
+mod modules;
 #[cfg(test)]
 mod shown;
 #[cfg(test)]
