@@ -1,11 +1,10 @@
 use super::*;
-use crate::modules::{FAULTS, Rows, SHOWN, TYPED, WORKED};
+use crate::modules::{FAULTS, SHOWN, TYPED, WORKED};
 use crate::shown::shown_module;
 use rt_bricks::{Module, parse_module};
 use rt_items::items;
 use rt_operands::CheckFault;
 use std::alloc::Global;
-use std::process::Abort;
 use std::test::Fail;
 
 // The module of a text, where it is one.
@@ -62,21 +61,24 @@ fn differing(alloc: Global, want: &str, texts: &[&str]) -> Result<String, Fail> 
     Ok(out)
 }
 
-fn answers(rt: &impl Abort, alloc: Global, rows: &[Rows]) -> Result<(), Fail> {
-    for (want, texts) in rows {
-        assert_eq!(rt; differing(alloc, want, texts)?.as_str(), "");
+#[test]
+fn typed_modules(rt: HostRuntime) -> Result<(), Fail> {
+    let alloc = rt.alloc();
+    for (want, texts) in TYPED {
+        let others = differing(alloc, want, texts)?;
+        assert_eq!(rt; others.as_str(), "");
     }
     Ok(())
 }
 
 #[test]
-fn typed_modules(rt: HostRuntime) -> Result<(), Fail> {
-    answers(&rt, rt.alloc(), TYPED)
-}
-
-#[test]
 fn faults_of_each_number(rt: HostRuntime) -> Result<(), Fail> {
-    answers(&rt, rt.alloc(), FAULTS)
+    let alloc = rt.alloc();
+    for (want, texts) in FAULTS {
+        let others = differing(alloc, want, texts)?;
+        assert_eq!(rt; others.as_str(), "");
+    }
+    Ok(())
 }
 
 // What is shown of the typed module of a text.
@@ -90,16 +92,20 @@ fn shown(alloc: Global, text: &str) -> Result<String, Fail> {
 
 #[test]
 fn bricks_and_strings_in_order(rt: HostRuntime) -> Result<(), Fail> {
+    let alloc = rt.alloc();
     for (text, want) in SHOWN {
-        assert_eq!(rt; shown(rt.alloc(), text)?.as_str(), *want);
+        let got = shown(alloc, text)?;
+        assert_eq!(rt; got.as_str(), *want);
     }
     Ok(())
 }
 
 #[test]
 fn worked_faults(rt: HostRuntime) -> Result<(), Fail> {
+    let alloc = rt.alloc();
     for (name, want, text) in WORKED {
-        assert_eq!(rt; checked(rt.alloc(), text)?.as_str(), *want, "{name}");
+        let got = checked(alloc, text)?;
+        assert_eq!(rt; got.as_str(), *want, "{name}");
     }
     Ok(())
 }
