@@ -126,9 +126,8 @@ pub(crate) const SHOWN: &[(&str, &str)] = &[
     ),
 ];
 
-/// Modules in which faults stand.
-pub(crate) const FAULTS: &[Rows] = &[
-    // 20: a name that nothing declares where it stands
+/// 20: names that nothing declares where they stand.
+pub(crate) const UNKNOWN_NAMES: &[Rows] = &[
     (
         "20 LINE 2",
         &[
@@ -166,7 +165,10 @@ pub(crate) const FAULTS: &[Rows] = &[
         "20 LINE 5",
         &["TITLE T;\nMODE R (INT A);\nDATA D; R X; ENDDATA;\nPROC P();\nX.B := 1 ENDPROC;"],
     ),
-    // 21: what doesn't fit
+];
+
+/// 21: what doesn't fit.
+pub(crate) const WRONG_MODES: &[Rows] = &[
     (
         "21 LINE 2",
         &[
@@ -208,7 +210,11 @@ pub(crate) const FAULTS: &[Rows] = &[
             "TITLE T; PROC P(); INT X;\nX := X\n.A ENDPROC;",
         ],
     ),
-    // 22: what can't be assigned
+];
+
+/// 22, 23 and 24: what isn't assigned, wrong counts of arguments, references of what belongs to one task or call.
+pub(crate) const PLACES: &[Rows] = &[
+    // what can't be assigned
     (
         "22 LINE 2",
         &[
@@ -221,7 +227,7 @@ pub(crate) const FAULTS: &[Rows] = &[
             "TITLE T; DATA D; ARRAY(2) INT X; ENDDATA; PROC P();\nX := 1 ENDPROC;",
         ],
     ),
-    // 23: too many or too few arguments
+    // too many or too few arguments
     (
         "23 LINE 2",
         &[
@@ -237,7 +243,7 @@ pub(crate) const FAULTS: &[Rows] = &[
             "TITLE T; PROC Q(INT A); ENDPROC;\nPROC P();\nQ() ENDPROC;",
         ],
     ),
-    // 24: the reference of a local, a parameter, a loop's variable or SVC data
+    // the reference of a local, a parameter, a loop's variable or SVC data
     (
         "24 LINE 2",
         &[
@@ -255,7 +261,11 @@ pub(crate) const FAULTS: &[Rows] = &[
             "TITLE T; SVC DATA RRSIO; PROC() BYTE IN; PROC(BYTE) OUT; ENDDATA;\nDATA D;\nREF PROC() BYTE R := IN; ENDDATA;",
         ],
     ),
-    // 25: what is left out: LABEL anywhere but before ERL in the SVC data RRERR
+];
+
+/// 25: what is left out of the language.
+pub(crate) const LEFT_OUT: &[Rows] = &[
+    // LABEL anywhere but before ERL in the SVC data RRERR
     (
         "25 LINE 2 FORM 1",
         &[
@@ -310,112 +320,118 @@ pub(crate) const FAULTS: &[Rows] = &[
             "TITLE T; PROC P(); PROC(\nARRAY(2) INT) Q; ENDPROC;",
         ],
     ),
-    // 26: the second of two names of one scope, and a record that contains itself
-    (
-        "26 LINE 2",
-        &[
-            // a module's MODEs, bricks and items are one scope
-            "TITLE T; MODE R (INT A); MODE\nR (INT B);",
-            "TITLE T; MODE R (INT A); PROC\nR(); ENDPROC;",
-            "TITLE T; ENT STACK R 5; MODE\nR (INT A);",
-            "TITLE T; MODE R (INT A); DATA D; INT\nR; ENDDATA;",
-            "TITLE T; SVC DATA D; INT R; ENDDATA; MODE\nR (INT A);",
-            "TITLE T; PROC P(); ENDPROC; ENT STACK\nP 5;",
-            "TITLE T; DATA D; ENDDATA; EXT DATA\nD; ENDDATA;",
-            "TITLE T; SVC PROC(INT) WAIT,\nWAIT;",
-            "TITLE T; EXT STACK S,\nS;",
-            "TITLE T; DATA D; INT\nD; ENDDATA;",
-            "TITLE T; PROC P(); ENDPROC; EXT DATA D; INT\nP; ENDDATA;",
-            "TITLE T; DATA D; INT P; ENDDATA; PROC\nP(); ENDPROC;",
-            "TITLE T; DATA D; INT X;\nINT Y, X; ENDDATA;",
-            "TITLE T; DATA D; INT X; ENDDATA; SVC DATA E; INT\nX; ENDDATA;",
-            // of three the second
-            "TITLE T; STACK S 5; STACK\nS 5; STACK\nS 5;",
-            // locals, parameters, labels and fields
-            "TITLE T; PROC P(); INT A;\nINT A; ENDPROC;",
-            "TITLE T; PROC P(INT A,\nA); ENDPROC;",
-            "TITLE T; PROC P(); L: ;\nL: ENDPROC;",
-            "TITLE T; PROC P(); L:\nL: ENDPROC;",
-            "TITLE T; MODE R (INT A,\nA);",
-            // records that contain themselves
-            "TITLE T; MODE\nR (INT N, ARRAY(2) R A);",
-            "TITLE T; MODE A (REF A X);\nMODE B (A X, C Y);\nMODE C (ARRAY(2) D Z);\nMODE D (INT N, B W);",
-        ],
-    ),
-    // 27: a start that is wrong or missing, a length out of range, and what is too large
-    (
-        "27 LINE 2",
-        &[
-            // a REF or PROC, or what holds one, without a start
-            "TITLE T; DATA D; REF INT\nR; ENDDATA;",
-            "TITLE T; DATA D; REF ARRAY BYTE\nR; ENDDATA;",
-            "TITLE T; DATA D; PROC()\nV; ENDDATA;",
-            "TITLE T; DATA D; ARRAY(2) PROC()\nV; ENDDATA;",
-            "TITLE T; MODE R (INT N, REF INT P); DATA D; R\nX; ENDDATA;",
-            "TITLE T; MODE R (ARRAY(2) PROC() P); DATA D; ARRAY(2) R\nX; ENDDATA;",
-            "TITLE T; PROC P(); REF INT\nR; ENDPROC;",
-            "TITLE T; PROC P(); REF ARRAY INT\nR; ENDPROC;",
-            "TITLE T; PROC P(); PROC()\nV; ENDPROC;",
-            // numbers: of a BYTE from 0 to 255 without minus, and what is no number
-            "TITLE T; DATA D; BYTE\nB := 256; ENDDATA;",
-            "TITLE T; DATA D; BYTE\nB := -1; ENDDATA;",
-            "TITLE T; DATA D; INT\nX := (1); ENDDATA;",
-            "TITLE T; DATA D; INT\nX := \"a\"; ENDDATA;",
-            "TITLE T; DATA D; INT X, Y; INT\nZ := X; ENDDATA;",
-            // REFs: a number, a string, a place of another mode, a procedure, a subscript out of range
-            "TITLE T; DATA D; REF INT\nR := 5; ENDDATA;",
-            "TITLE T; DATA D; REF ARRAY INT\nR := \"a\"; ENDDATA;",
-            "TITLE T; DATA D; FRAC X; REF INT\nR := X; ENDDATA;",
-            "TITLE T; DATA D; ARRAY(2) FRAC X; REF ARRAY INT\nR := X; ENDDATA;",
-            "TITLE T; DATA D; INT X; REF INT P := X; REF INT\nR := P; ENDDATA;",
-            "TITLE T; PROC P(); ENDPROC; DATA D; REF INT\nR := P; ENDDATA;",
-            "TITLE T; DATA D; ARRAY(3) INT A; REF INT\nR := A(4); ENDDATA;",
-            "TITLE T; DATA D; ARRAY(3) INT A; REF INT\nR := A(0); ENDDATA;",
-            // SVC data of another mode
-            "TITLE T; SVC DATA E; FRAC F; ENDDATA; DATA D; REF INT\nR := F; ENDDATA;",
-            "TITLE T; SVC DATA RRSIO; PROC() BYTE IN; PROC(BYTE) OUT; ENDDATA; DATA D; REF PROC() BYTE\nR := OUT; ENDDATA;",
-            // PROCs: a place, also one of PROC mode, and a procedure of another mode
-            "TITLE T; DATA D; INT X; PROC()\nV := X; ENDDATA;",
-            "TITLE T; PROC P(); ENDPROC; DATA D; PROC() U := P; PROC()\nV := U; ENDDATA;",
-            "TITLE T; PROC Q(INT A); ENDPROC; DATA D; PROC()\nV := Q; ENDDATA;",
-            // lists and strings of another length, and of what is neither array nor record
-            "TITLE T; DATA D; ARRAY(2) INT\nA := (1, 2, 3); ENDDATA;",
-            "TITLE T; DATA D; ARRAY(3) INT\nA := (1, 2); ENDDATA;",
-            "TITLE T; DATA D; ARRAY(3) INT\nA := 1(3); ENDDATA;",
-            "TITLE T; MODE R (INT A, B); DATA D; R\nX := (1); ENDDATA;",
-            "TITLE T; MODE R (INT A, BYTE B); DATA D; R\nX := (1, 256); ENDDATA;",
-            "TITLE T; DATA D; ARRAY(3) BYTE\nS := \"ab\"; ENDDATA;",
-            "TITLE T; DATA D; ARRAY(3) BYTE\nS := \"abcd\"; ENDDATA;",
-            "TITLE T; DATA D; ARRAY(2) INT\nS := \"ab\"; ENDDATA;",
-            // copies: none, too few, and at the top any number but one
-            "TITLE T; DATA D; ARRAY(2) INT\nA := (1, 2, 3(0)); ENDDATA;",
-            "TITLE T; DATA D; ARRAY(3) INT\nA := (1, 2(1)); ENDDATA;",
-            "TITLE T; DATA D; INT\nX := 1(2); ENDDATA;",
-            "TITLE T; DATA D; INT\nX := 1(0); ENDDATA;",
-            "TITLE T; DATA D; ARRAY(2) INT\nA := (1, 2)(2); ENDDATA;",
-            // lengths: at each name that is declared with them
-            "TITLE T; DATA D; ARRAY(0) INT\nA; ENDDATA;",
-            "TITLE T; DATA D; ARRAY(0) INT\nA,\nB; ENDDATA;",
-            "TITLE T; DATA D; ARRAY(8192) BYTE\nA; ENDDATA;",
-            "TITLE T; MODE R (ARRAY(8192) BYTE\nA);",
-            "TITLE T; EXT DATA D; ARRAY(8192) BYTE\nA; ENDDATA;",
-            "TITLE T; STACK\nS 28673;",
-            "TITLE T; ENT STACK\nS 0;",
-            // too large, at the field or item that passes 57,344 bytes
-            "TITLE T; MODE R (ARRAY(8191) INT A, B, C,\nE, F);",
-            "TITLE T; MODE R (ARRAY(8191) INT A, B, C, ARRAY(4095) INT E, BYTE\nF);",
-            "TITLE T; EXT DATA D; ARRAY(8191) INT A, B, C,\nE; ENDDATA;",
-            "TITLE T; SVC DATA D; ARRAY(8191) INT A, B, C,\nE; ENDDATA;",
-            "TITLE T; MODE R (ARRAY(8191) INT A); DATA D; R X, Y, Z,\nW; ENDDATA;",
-            "TITLE T; MODE R (ARRAY(8191) INT A); DATA D; ARRAY(4) R\nX; ENDDATA;",
-            // a BYTE in front moves what follows by a word, LABEL counts two bytes, and records and arrays are even
-            "TITLE T; DATA D; BYTE B; ARRAY(8191) INT A, C, E; ARRAY(4095) INT\nF; ENDDATA;",
-            "TITLE T; SVC DATA RRERR; LABEL ERL; ARRAY(8191) INT A, C, E; ARRAY(4095) INT\nF; ENDDATA;",
-            "TITLE T; MODE R (BYTE B); DATA D; ARRAY(8191) R X, Y, Z,\nW; ENDDATA;",
-            "TITLE T; DATA D; ARRAY(8189) BYTE A, B, C, E, F, G, H; BYTE\nI; ENDDATA;",
-        ],
-    ),
-    // 28: names that are no labels where they stand
+];
+
+/// 26: the second of two names of one scope, and records that contain themselves.
+pub(crate) const DECLARED_TWICE: &[Rows] = &[(
+    "26 LINE 2",
+    &[
+        // a module's MODEs, bricks and items are one scope
+        "TITLE T; MODE R (INT A); MODE\nR (INT B);",
+        "TITLE T; MODE R (INT A); PROC\nR(); ENDPROC;",
+        "TITLE T; ENT STACK R 5; MODE\nR (INT A);",
+        "TITLE T; MODE R (INT A); DATA D; INT\nR; ENDDATA;",
+        "TITLE T; SVC DATA D; INT R; ENDDATA; MODE\nR (INT A);",
+        "TITLE T; PROC P(); ENDPROC; ENT STACK\nP 5;",
+        "TITLE T; DATA D; ENDDATA; EXT DATA\nD; ENDDATA;",
+        "TITLE T; SVC PROC(INT) WAIT,\nWAIT;",
+        "TITLE T; EXT STACK S,\nS;",
+        "TITLE T; DATA D; INT\nD; ENDDATA;",
+        "TITLE T; PROC P(); ENDPROC; EXT DATA D; INT\nP; ENDDATA;",
+        "TITLE T; DATA D; INT P; ENDDATA; PROC\nP(); ENDPROC;",
+        "TITLE T; DATA D; INT X;\nINT Y, X; ENDDATA;",
+        "TITLE T; DATA D; INT X; ENDDATA; SVC DATA E; INT\nX; ENDDATA;",
+        // of three the second
+        "TITLE T; STACK S 5; STACK\nS 5; STACK\nS 5;",
+        // locals, parameters, labels and fields
+        "TITLE T; PROC P(); INT A;\nINT A; ENDPROC;",
+        "TITLE T; PROC P(INT A,\nA); ENDPROC;",
+        "TITLE T; PROC P(); L: ;\nL: ENDPROC;",
+        "TITLE T; PROC P(); L:\nL: ENDPROC;",
+        "TITLE T; MODE R (INT A,\nA);",
+        // records that contain themselves
+        "TITLE T; MODE\nR (INT N, ARRAY(2) R A);",
+        "TITLE T; MODE A (REF A X);\nMODE B (A X, C Y);\nMODE C (ARRAY(2) D Z);\nMODE D (INT N, B W);",
+    ],
+)];
+
+/// 27: starts that are wrong or missing, lengths out of range, and what is too large.
+pub(crate) const BAD_STARTS: &[Rows] = &[(
+    "27 LINE 2",
+    &[
+        // a REF or PROC, or what holds one, without a start
+        "TITLE T; DATA D; REF INT\nR; ENDDATA;",
+        "TITLE T; DATA D; REF ARRAY BYTE\nR; ENDDATA;",
+        "TITLE T; DATA D; PROC()\nV; ENDDATA;",
+        "TITLE T; DATA D; ARRAY(2) PROC()\nV; ENDDATA;",
+        "TITLE T; MODE R (INT N, REF INT P); DATA D; R\nX; ENDDATA;",
+        "TITLE T; MODE R (ARRAY(2) PROC() P); DATA D; ARRAY(2) R\nX; ENDDATA;",
+        "TITLE T; PROC P(); REF INT\nR; ENDPROC;",
+        "TITLE T; PROC P(); REF ARRAY INT\nR; ENDPROC;",
+        "TITLE T; PROC P(); PROC()\nV; ENDPROC;",
+        // numbers: of a BYTE from 0 to 255 without minus, and what is no number
+        "TITLE T; DATA D; BYTE\nB := 256; ENDDATA;",
+        "TITLE T; DATA D; BYTE\nB := -1; ENDDATA;",
+        "TITLE T; DATA D; INT\nX := (1); ENDDATA;",
+        "TITLE T; DATA D; INT\nX := \"a\"; ENDDATA;",
+        "TITLE T; DATA D; INT X, Y; INT\nZ := X; ENDDATA;",
+        // REFs: a number, a string, a place of another mode, a procedure, a subscript out of range
+        "TITLE T; DATA D; REF INT\nR := 5; ENDDATA;",
+        "TITLE T; DATA D; REF ARRAY INT\nR := \"a\"; ENDDATA;",
+        "TITLE T; DATA D; FRAC X; REF INT\nR := X; ENDDATA;",
+        "TITLE T; DATA D; ARRAY(2) FRAC X; REF ARRAY INT\nR := X; ENDDATA;",
+        "TITLE T; DATA D; INT X; REF INT P := X; REF INT\nR := P; ENDDATA;",
+        "TITLE T; PROC P(); ENDPROC; DATA D; REF INT\nR := P; ENDDATA;",
+        "TITLE T; DATA D; ARRAY(3) INT A; REF INT\nR := A(4); ENDDATA;",
+        "TITLE T; DATA D; ARRAY(3) INT A; REF INT\nR := A(0); ENDDATA;",
+        // SVC data of another mode
+        "TITLE T; SVC DATA E; FRAC F; ENDDATA; DATA D; REF INT\nR := F; ENDDATA;",
+        "TITLE T; SVC DATA RRSIO; PROC() BYTE IN; PROC(BYTE) OUT; ENDDATA; DATA D; REF PROC() BYTE\nR := OUT; ENDDATA;",
+        // PROCs: a place, also one of PROC mode, and a procedure of another mode
+        "TITLE T; DATA D; INT X; PROC()\nV := X; ENDDATA;",
+        "TITLE T; PROC P(); ENDPROC; DATA D; PROC() U := P; PROC()\nV := U; ENDDATA;",
+        "TITLE T; PROC Q(INT A); ENDPROC; DATA D; PROC()\nV := Q; ENDDATA;",
+        // lists and strings of another length, and of what is neither array nor record
+        "TITLE T; DATA D; ARRAY(2) INT\nA := (1, 2, 3); ENDDATA;",
+        "TITLE T; DATA D; ARRAY(3) INT\nA := (1, 2); ENDDATA;",
+        "TITLE T; DATA D; ARRAY(3) INT\nA := 1(3); ENDDATA;",
+        "TITLE T; MODE R (INT A, B); DATA D; R\nX := (1); ENDDATA;",
+        "TITLE T; MODE R (INT A, BYTE B); DATA D; R\nX := (1, 256); ENDDATA;",
+        "TITLE T; DATA D; ARRAY(3) BYTE\nS := \"ab\"; ENDDATA;",
+        "TITLE T; DATA D; ARRAY(3) BYTE\nS := \"abcd\"; ENDDATA;",
+        "TITLE T; DATA D; ARRAY(2) INT\nS := \"ab\"; ENDDATA;",
+        // copies: none, too few, and at the top any number but one
+        "TITLE T; DATA D; ARRAY(2) INT\nA := (1, 2, 3(0)); ENDDATA;",
+        "TITLE T; DATA D; ARRAY(3) INT\nA := (1, 2(1)); ENDDATA;",
+        "TITLE T; DATA D; INT\nX := 1(2); ENDDATA;",
+        "TITLE T; DATA D; INT\nX := 1(0); ENDDATA;",
+        "TITLE T; DATA D; ARRAY(2) INT\nA := (1, 2)(2); ENDDATA;",
+        // lengths: at each name that is declared with them
+        "TITLE T; DATA D; ARRAY(0) INT\nA; ENDDATA;",
+        "TITLE T; DATA D; ARRAY(0) INT\nA,\nB; ENDDATA;",
+        "TITLE T; DATA D; ARRAY(8192) BYTE\nA; ENDDATA;",
+        "TITLE T; MODE R (ARRAY(8192) BYTE\nA);",
+        "TITLE T; EXT DATA D; ARRAY(8192) BYTE\nA; ENDDATA;",
+        "TITLE T; STACK\nS 28673;",
+        "TITLE T; ENT STACK\nS 0;",
+        // too large, at the field or item that passes 57,344 bytes
+        "TITLE T; MODE R (ARRAY(8191) INT A, B, C,\nE, F);",
+        "TITLE T; MODE R (ARRAY(8191) INT A, B, C, ARRAY(4095) INT E, BYTE\nF);",
+        "TITLE T; EXT DATA D; ARRAY(8191) INT A, B, C,\nE; ENDDATA;",
+        "TITLE T; SVC DATA D; ARRAY(8191) INT A, B, C,\nE; ENDDATA;",
+        "TITLE T; MODE R (ARRAY(8191) INT A); DATA D; R X, Y, Z,\nW; ENDDATA;",
+        "TITLE T; MODE R (ARRAY(8191) INT A); DATA D; ARRAY(4) R\nX; ENDDATA;",
+        // a BYTE in front moves what follows by a word, LABEL counts two bytes, and records and arrays are even
+        "TITLE T; DATA D; BYTE B; ARRAY(8191) INT A, C, E; ARRAY(4095) INT\nF; ENDDATA;",
+        "TITLE T; SVC DATA RRERR; LABEL ERL; ARRAY(8191) INT A, C, E; ARRAY(4095) INT\nF; ENDDATA;",
+        "TITLE T; MODE R (BYTE B); DATA D; ARRAY(8191) R X, Y, Z,\nW; ENDDATA;",
+        "TITLE T; DATA D; ARRAY(8189) BYTE A, B, C, E, F, G, H; BYTE\nI; ENDDATA;",
+    ],
+)];
+
+/// 28 and 29: names that are no labels, and results that are missing.
+pub(crate) const LABELS_AND_RESULTS: &[Rows] = &[
+    // names that are no labels where they stand
     (
         "28 LINE 2",
         &[
@@ -431,7 +447,7 @@ pub(crate) const FAULTS: &[Rows] = &[
             "TITLE T; PROC P(); L: FOR L := 1 TO 2 DO GOTO\nL REP ENDPROC;",
         ],
     ),
-    // 29: results that are missing
+    // results that are missing
     (
         "29 LINE 2",
         &[
@@ -450,6 +466,10 @@ pub(crate) const FAULTS: &[Rows] = &[
             "TITLE T; PROC F() INT; F()\nENDPROC;",
         ],
     ),
+];
+
+/// Several faults, of which one counts.
+pub(crate) const SEVERAL: &[Rows] = &[
     // of two at one item the lesser number
     (
         "26 LINE 2",

@@ -1,5 +1,8 @@
 use super::*;
-use crate::modules::{FAULTS, SHOWN, TYPED, WORKED};
+use crate::modules::{
+    BAD_STARTS, DECLARED_TWICE, LABELS_AND_RESULTS, LEFT_OUT, PLACES, Rows, SEVERAL, SHOWN, TYPED,
+    UNKNOWN_NAMES, WORKED, WRONG_MODES,
+};
 use crate::shown::shown_module;
 use rt_bricks::{Module, parse_module};
 use rt_items::items;
@@ -61,23 +64,75 @@ fn differing(alloc: Global, want: &str, texts: &[&str]) -> Result<String, Fail> 
     Ok(out)
 }
 
+// The same of several rows.
+fn all_differing(alloc: Global, rows: &[Rows]) -> Result<String, Fail> {
+    let mut out = String::new(alloc);
+    for (want, texts) in rows {
+        out.push_str(&differing(alloc, want, texts)?)?;
+    }
+    Ok(out)
+}
+
 #[test]
 fn typed_modules(rt: HostRuntime) -> Result<(), Fail> {
-    let alloc = rt.alloc();
-    for (want, texts) in TYPED {
-        let others = differing(alloc, want, texts)?;
-        assert_eq!(rt; others.as_str(), "");
-    }
+    let others = all_differing(rt.alloc(), TYPED)?;
+    assert_eq!(rt; others.as_str(), "");
     Ok(())
 }
 
 #[test]
-fn faults_of_each_number(rt: HostRuntime) -> Result<(), Fail> {
-    let alloc = rt.alloc();
-    for (want, texts) in FAULTS {
-        let others = differing(alloc, want, texts)?;
-        assert_eq!(rt; others.as_str(), "");
-    }
+fn unknown_names(rt: HostRuntime) -> Result<(), Fail> {
+    let others = all_differing(rt.alloc(), UNKNOWN_NAMES)?;
+    assert_eq!(rt; others.as_str(), "");
+    Ok(())
+}
+
+#[test]
+fn wrong_modes(rt: HostRuntime) -> Result<(), Fail> {
+    let others = all_differing(rt.alloc(), WRONG_MODES)?;
+    assert_eq!(rt; others.as_str(), "");
+    Ok(())
+}
+
+#[test]
+fn unfit_places(rt: HostRuntime) -> Result<(), Fail> {
+    let others = all_differing(rt.alloc(), PLACES)?;
+    assert_eq!(rt; others.as_str(), "");
+    Ok(())
+}
+
+#[test]
+fn left_out_forms(rt: HostRuntime) -> Result<(), Fail> {
+    let others = all_differing(rt.alloc(), LEFT_OUT)?;
+    assert_eq!(rt; others.as_str(), "");
+    Ok(())
+}
+
+#[test]
+fn names_declared_twice(rt: HostRuntime) -> Result<(), Fail> {
+    let others = all_differing(rt.alloc(), DECLARED_TWICE)?;
+    assert_eq!(rt; others.as_str(), "");
+    Ok(())
+}
+
+#[test]
+fn bad_starts(rt: HostRuntime) -> Result<(), Fail> {
+    let others = all_differing(rt.alloc(), BAD_STARTS)?;
+    assert_eq!(rt; others.as_str(), "");
+    Ok(())
+}
+
+#[test]
+fn labels_and_results(rt: HostRuntime) -> Result<(), Fail> {
+    let others = all_differing(rt.alloc(), LABELS_AND_RESULTS)?;
+    assert_eq!(rt; others.as_str(), "");
+    Ok(())
+}
+
+#[test]
+fn several_faults(rt: HostRuntime) -> Result<(), Fail> {
+    let others = all_differing(rt.alloc(), SEVERAL)?;
+    assert_eq!(rt; others.as_str(), "");
     Ok(())
 }
 
