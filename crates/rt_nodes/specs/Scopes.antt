@@ -1,5 +1,5 @@
 -- What the nodes of a procedure may name.
-use Rattle.std.specs.Prelude.{ℕ, ◌-◌, Bool, true, false, ◌&&◌, ◌||◌, nat_lt, ◌==◌, if◌then◌else◌, List, [], ◌∷◌, codes, length, map, Option, Some, None, option_map, slice_get}
+use Rattle.std.specs.Prelude.{ℕ, ◌-◌, Bool, true, false, ◌&&◌, ◌||◌, nat_lt, ◌==◌, if◌then◌else◌, List, [], ◌∷◌, codes, length, map, Option, Some, None, option_map, slice_get, position}
 use Rattle.std.specs.Str.{bytes_eq}
 use Rattle.rt_modes.specs.declared.mode.Field.{Field}
 use Rattle.rt_modes.specs.declared.mode.Mode.{Mode, out-Mode}
@@ -13,6 +13,7 @@ use Rattle.rt_nodes.specs.declared.brick.Kind.{Kind}
 use Rattle.rt_nodes.specs.declared.brick.Kind.TheVariants as kind
 use Rattle.rt_nodes.specs.declared.brick.Local.{Local}
 use Rattle.rt_nodes.specs.declared.brick.ModuleParts.{ModuleParts}
+use Rattle.rt_nodes.specs.declared.supplied.Supplied.{Supplied}
 
 -- the next answer, where there is a first
 abbrev pub with : {A B : Type 0} → Option A → (A → Option B) → Option B
@@ -159,6 +160,14 @@ errors_of = first_fields is_errors
 
 abbrev pub streams_of : List Face → Option (List Field)
 streams_of = first_fields is_streams
+
+-- the fields of the brick at a number
+abbrev pub fields_at : List Face → Option ℕ → Option (List Field)
+fields_at bs at = with at (λ k. with (slice_get bs k) fields_of)
+
+-- the numbers of the first bricks that declare the task's own error data and its streams as they are supplied
+abbrev pub supplied_of : List Brick → Supplied
+supplied_of bs = record { errors = position is_errors (faces bs); streams = position is_streams (faces bs) }
 
 -- the items of any other data brick
 abbrev pub items_of : Face → Option (List Field)

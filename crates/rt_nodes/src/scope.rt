@@ -2,17 +2,16 @@
 
 ghost use Rattle.std.specs.Prelude.{◌≡◌, [], option_map, slice_get, nat_lt};
 ghost use Rattle.std.specs.Option.{option_copied};
-ghost use Rattle.rt_modes.specs.declared.mode.Mode.{out-Mode};
 ghost use Rattle.rt_modes.specs.declared.mode.Mode.TheVariants as variant;
 ghost use Rattle.rt_nodes.specs.Code.{scope, place_found, mode_found};
 ghost use Rattle.rt_nodes.specs.Scopes.{scope_of, with_locals};
 ghost use Rattle.rt_nodes.specs.Typing.{local_found, item_found, Private};
-ghost use Rattle.rt_nodes.specs.Scopes.{only, faces, face, fields_of, items_of, is_errors, is_streams, first_fields, is_error_data, is_stream_data, field_is, field_at, field_mode, proc_mode, svc_mode, passes, takes, gives, is_one, is_byte_layer, is_int_layer};
+ghost use Rattle.rt_nodes.specs.Scopes.{only, faces, face, fields_at, items_of, field_at, field_mode, proc_mode, svc_mode, supplied_of};
 
 use crate::brick::{Brick, BrickSort, Kind, Local, ModuleParts};
 use crate::lent::{Found, Lent, ValueMode};
+use crate::supplied::{Supplied, fields_of, is_errors, is_streams};
 use rt_modes::{Field, Mode, RecordDef};
-use rt_words::Boxed;
 
 /// The records, bricks and strings of a module; the items of the task's own error data and streams, where the module
 /// declares them as they are supplied; and the parameters and locals of a procedure.
@@ -27,17 +26,24 @@ pub struct Scope<'a> {
 }
 
 impl<'a> Scope<'a> {
-    /// The scope of the module's data.
+    /// The scope of the module's data. It goes over the bricks for those that are supplied.
     pub fn of(parts: &'a ModuleParts) -> Scope<'a>
         ensures { scope result ≡ scope_of parts.now }
+    {
+        Scope::with_supplied(parts, &Supplied::of(parts.bricks.as_slice()))
+    }
+
+    /// The scope of the module's data, where it is known which bricks are supplied. It takes constant time.
+    pub fn with_supplied(parts: &'a ModuleParts, supplied: &Supplied) -> Scope<'a>
+        ensures { supplied.now ≡ supplied_of parts.now.bricks → scope result ≡ scope_of parts.now }
     {
         let bricks = parts.bricks.as_slice();
         Scope {
             records: parts.modes.records.as_slice(),
             bricks,
             strings: parts.strings.len(),
-            errors: errors_of(bricks),
-            streams: streams_of(bricks),
+            errors: fields_at(bricks, supplied.errors),
+            streams: fields_at(bricks, supplied.streams),
             locals: &[],
         }
     }
@@ -152,28 +158,11 @@ fn field_at(fields: &[Field], k: u16) -> Option<&Mode>
     }
 }
 
-/// The items of the task's own error data, where it is declared.
-fn errors_of(bricks: &[Brick]) -> Option<&[Field]>
-    ensures { option_copied result ≡ first_fields is_errors (faces bricks.now) }
+/// The fields of the data brick at a number, if there is one.
+fn fields_at(bricks: &[Brick], at: Option<usize>) -> Option<&[Field]>
+    ensures { option_copied result ≡ fields_at (faces bricks.now) at }
 {
-    for brick in bricks {
-        if is_errors(brick) {
-            return fields_of(brick);
-        }
-    }
-    None
-}
-
-/// The items of the task's own streams, where they are declared.
-fn streams_of(bricks: &[Brick]) -> Option<&[Field]>
-    ensures { option_copied result ≡ first_fields is_streams (faces bricks.now) }
-{
-    for brick in bricks {
-        if is_streams(brick) {
-            return fields_of(brick);
-        }
-    }
-    None
+    fields_of(bricks.get(at?)?)
 }
 
 /// The fields of a data brick that isn't supplied.
@@ -184,125 +173,5 @@ fn items_of(brick: &Brick) -> Option<&[Field]>
         None
     } else {
         fields_of(brick)
-    }
-}
-
-fn fields_of(brick: &Brick) -> Option<&[Field]>
-    ensures { option_copied result ≡ fields_of (face brick.now) }
-{
-    match &brick.sort {
-        BrickSort::Data(fields, _) => Some(fields.as_slice()),
-        _ => None,
-    }
-}
-
-fn is_errors(brick: &Brick) -> bool
-    ensures { result ≡ is_errors (face brick.now) }
-{
-    matches!(brick.kind, Kind::Svc)
-        && brick.name.as_slice() == b"RRERR".as_slice()
-        && match fields_of(brick) {
-            Some(fields) => is_error_data(fields),
-            None => false,
-        }
-}
-
-fn is_streams(brick: &Brick) -> bool
-    ensures { result ≡ is_streams (face brick.now) }
-{
-    matches!(brick.kind, Kind::Svc)
-        && brick.name.as_slice() == b"RRSIO".as_slice()
-        && match fields_of(brick) {
-            Some(fields) => is_stream_data(fields),
-            None => false,
-        }
-}
-
-/// Whether items are those of RRERR as it is supplied: `LABEL ERL; INT ERN; PROC(INT) ERP`.
-pub fn is_error_data(fields: &[Field]) -> bool
-    ensures { result ≡ is_error_data fields.now }
-{
-    match fields {
-        [erl, ern, erp] => {
-            erl.name.as_slice() == b"ERL".as_slice()
-                && matches!(erl.mode, Mode::Label)
-                && ern.name.as_slice() == b"ERN".as_slice()
-                && matches!(ern.mode, Mode::Int)
-                && erp.name.as_slice() == b"ERP".as_slice()
-                && takes_int(&erp.mode)
-        }
-        _ => false,
-    }
-}
-
-/// Whether items are those of RRSIO as it is supplied: `PROC() BYTE IN; PROC(BYTE) OUT`.
-pub fn is_stream_data(fields: &[Field]) -> bool
-    ensures { result ≡ is_stream_data fields.now }
-{
-    match fields {
-        [input, output] => {
-            input.name.as_slice() == b"IN".as_slice()
-                && gives_byte(&input.mode)
-                && output.name.as_slice() == b"OUT".as_slice()
-                && takes_byte(&output.mode)
-        }
-        _ => false,
-    }
-}
-
-/// Whether this is the mode PROC(INT).
-fn takes_int(mode: &Mode) -> bool
-    ensures { result ≡ takes is_int_layer (out-Mode mode.now) }
-{
-    match mode {
-        Mode::Proc(parameters, answer) => is_one_int(parameters.as_slice()) && answer.is_none(),
-        _ => false,
-    }
-}
-
-fn is_one_int(modes: &[Mode]) -> bool
-    ensures { result ≡ is_one is_int_layer modes.now }
-{
-    match modes {
-        [] => false,
-        [mode, rest @ ..] => matches!(mode, Mode::Int) && rest.is_empty(),
-    }
-}
-
-/// Whether this is the mode PROC(BYTE).
-fn takes_byte(mode: &Mode) -> bool
-    ensures { result ≡ takes is_byte_layer (out-Mode mode.now) }
-{
-    match mode {
-        Mode::Proc(parameters, answer) => is_one_byte(parameters.as_slice()) && answer.is_none(),
-        _ => false,
-    }
-}
-
-fn is_one_byte(modes: &[Mode]) -> bool
-    ensures { result ≡ is_one is_byte_layer modes.now }
-{
-    match modes {
-        [] => false,
-        [mode, rest @ ..] => matches!(mode, Mode::Byte) && rest.is_empty(),
-    }
-}
-
-/// Whether this is the mode PROC() BYTE.
-fn gives_byte(mode: &Mode) -> bool
-    ensures { result ≡ gives is_byte_layer (out-Mode mode.now) }
-{
-    match mode {
-        Mode::Proc(parameters, answer) => parameters.len() == 0 && is_byte(answer),
-        _ => false,
-    }
-}
-
-fn is_byte(answer: &Option<Boxed<Mode>>) -> bool
-    ensures { result ≡ passes (λ m. is_byte_layer (out-Mode m)) answer.now }
-{
-    match answer {
-        Some(mode) => matches!(mode.get(), Mode::Byte),
-        None => false,
     }
 }
