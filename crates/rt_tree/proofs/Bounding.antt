@@ -7,8 +7,7 @@ use Rattle.rt_nodes.specs.declared.brick.BrickSort.TheVariants as sort
 use Rattle.rt_nodes.specs.declared.brick.Kind.{Kind}
 use Rattle.rt_nodes.specs.declared.brick.ModuleParts.{ModuleParts}
 use Rattle.rt_tree.specs.Modules.{every_node_fits, with_most, bricks_with, sort_with, brick_fits, sort_fits}
-use Rattle.rt_nodes.specs.Scopes.{scope_of}
-use Rattle.rt_nodes.specs.Scopes.{Scope, faces, sort_of}
+use Rattle.rt_nodes.specs.Scopes.{Scope, faces, sort_of, scope_of, supplied_of}
 
 sorts : (most : ℕ) (s : BrickSort) → sort_of (sort_with most s) ≡ sort_of s
 sorts most (sort.Proc m None) = refl
@@ -37,6 +36,9 @@ scope_stays p k most = rw (faces_stay most p.bricks k) refl
 
 pub fits_still : (p : ModuleParts) (k most : ℕ) → every_node_fits (with_most p k most) ≡ every_node_fits p
 fits_still p k most = rw (scope_stays p k most, bricks_stay most (scope_of p) p.bricks k) refl
+
+pub supplied_still : (most : ℕ) (bs : List Brick) (k : ℕ) → supplied_of (bricks_with bs k most) ≡ supplied_of bs
+supplied_still most bs k = rw (faces_stay most bs k) refl
 
 -- the bricks with another one at a place
 pub set_there : (most : ℕ) (bs : List Brick) (k : ℕ) (b : Brick) (s : BrickSort) → k < length bs → b ≡ slice_index_or bs k b → s ≡ sort_with most b.sort

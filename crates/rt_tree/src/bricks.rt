@@ -3,6 +3,7 @@
 ghost use Rattle.std.specs.Prelude.{◌≡◌, length, map};
 ghost use Rattle.std.specs.List.{list_all};
 ghost use Rattle.rt_nodes.specs.Code as seen;
+ghost use Rattle.rt_nodes.specs.Scopes.{scope_of};
 ghost use Rattle.rt_tree.specs.Modules as modules;
 
 use crate::closing::is_closed;
@@ -17,13 +18,13 @@ use rt_nodes::{
 };
 use rt_words::Bytes;
 
-/// Whether every node of a module fits.
-pub(crate) fn every_node_fits(parts: &ModuleParts) -> bool
+/// Whether every node of a module fits, where the scope is that of its data.
+pub(crate) fn every_node_fits(scope: &Scope<'_>, parts: &ModuleParts) -> bool
+    requires { seen.scope scope.now ≡ scope_of parts.now }
     ensures { result ≡ modules.every_node_fits parts.now }
 {
-    let scope = Scope::of(parts);
     records_stand(parts.modes.records.as_slice())
-        && bricks_fit(&scope, parts.bricks.as_slice())
+        && bricks_fit(scope, parts.bricks.as_slice())
         && are_short(parts.strings.as_slice())
 }
 

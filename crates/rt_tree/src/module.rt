@@ -1,11 +1,13 @@
 //! A module in which every node fits.
 
 ghost use Rattle.std.specs.Prelude.{◌≡◌, true, false, IfSome, IfNone, slice_get};
+ghost use Rattle.rt_nodes.specs.Code as seen;
+ghost use Rattle.rt_nodes.specs.Scopes.{scope_of};
 ghost use Rattle.rt_tree.specs.Modules.{every_node_fits, has_body, is_procedure, sort_with, with_most};
 
 use crate::bricks::every_node_fits;
 use rt_modes::ModeTable;
-use rt_nodes::{Brick, BrickSort, ModuleParts};
+use rt_nodes::{Brick, BrickSort, ModuleParts, Scope, Supplied};
 use rt_words::{Bytes, List, Name};
 use std::marker::Model;
 
@@ -13,11 +15,14 @@ use std::marker::Model;
 #[derive(Drop)]
 pub struct TypedModule {
     parts: ModuleParts,
+    /// Which of its bricks are supplied.
+    supplied: Supplied,
 }
 
 impl Model for TypedModule {
     ghost use Rattle.std.specs.Prelude.{◌≡◌, true};
     ghost use Rattle.rt_nodes.specs.declared.brick.ModuleParts.{ModuleParts};
+    ghost use Rattle.rt_nodes.specs.Scopes.{supplied_of};
     ghost use Rattle.rt_tree.specs.Modules.{every_node_fits};
     ghost use Rattle.std.specs.Coded.{codes};
     ghost use Rattle.rt_modes.specs.contracts.mode.Mode as modes;
@@ -31,7 +36,7 @@ impl Model for TypedModule {
 
     ghost view = { λ m. m.parts };
 
-    ghost invariant = { λ m. every_node_fits m.parts ≡ true };
+    ghost invariant = { λ m. (every_node_fits m.parts ≡ true) × (m.supplied ≡ supplied_of m.parts.bricks) };
 }
 
 impl TypedModule {
@@ -42,8 +47,9 @@ impl TypedModule {
         ensures fits { IfSome result (λ _. every_node_fits parts ≡ true) }
         ensures unfit { IfNone result (every_node_fits parts ≡ false) }
     {
-        if every_node_fits(&parts) {
-            Some(TypedModule { parts })
+        let supplied = Supplied::of(parts.bricks.as_slice());
+        if every_node_fits(&Scope::with_supplied(&parts, &supplied), &parts) {
+            Some(TypedModule { parts, supplied })
         } else {
             None
         }
@@ -83,6 +89,13 @@ impl TypedModule {
         ensures { result.now ≡ self.now.strings }
     {
         &self.parts.strings
+    }
+
+    /// What the nodes of the module may name: no walk over its bricks.
+    pub fn scope(&self) -> Scope<'_>
+        ensures { seen.scope result ≡ scope_of self.now }
+    {
+        Scope::with_supplied(&self.parts, &self.supplied)
     }
 
     /// Whether a brick is an own or ENT procedure of the module.

@@ -1,9 +1,10 @@
-use Rattle.std.proofs.Common.{◌≡◌, refl, ap, ◌∙◌, arith}
+use Rattle.std.proofs.Common.{◌≡◌, refl, sym, ap, ◌∙◌, arith}
+use Rattle.rt_nodes.specs.Scopes.{supplied_of}
 use Rattle.rt_tree.specs.Modules.{every_node_fits, with_most, bricks_with}
 use Rattle.rt_nodes.specs.declared.brick.ModuleParts.{ModuleParts}
 use Rattle.rt_tree.proofs.module.TypedModule.bound.Goals as goal
 use Rattle.rt_tree.proofs.module.TypedModule.bound.Goals.{in-Some, in_default}
-use Rattle.rt_tree.proofs.Bounding.{fits_still, put_there, left_there}
+use Rattle.rt_tree.proofs.Bounding.{fits_still, supplied_still, put_there, left_there}
 
 taken : (c : goal.After-drop-self-inside) → c.into_vec-bricks.result.items ≡ c.self.inside.parts.bricks
 taken c = c.into_vec-bricks.ensures ∙ c.take.ensures.taken
@@ -21,4 +22,7 @@ pub returns : goal.returns
 returns c = parts_left c ∙ ap (λ (p : ModuleParts). with_most p c.args.brick c.args.most) c.self.view_is
 
 pub invariant_of-self : goal.invariant_of-self
-invariant_of-self c = ap every_node_fits (parts_left c) ∙ fits_still c.self.inside.parts c.args.brick c.args.most ∙ c.self.invariant
+invariant_of-self c = (
+  ap every_node_fits (parts_left c) ∙ fits_still c.self.inside.parts c.args.brick c.args.most ∙ c.self.invariant.0,
+  c.self.invariant.1 ∙ sym (ap supplied_of (c.from_vec.ensures ∙ left c) ∙ supplied_still c.args.most c.self.inside.parts.bricks c.args.brick),
+)
