@@ -10,12 +10,12 @@ use crate::frame::Frame;
 use crate::measure::plus;
 use crate::statements::Walk;
 use rt_modes::Mode;
-use rt_tree::{BrickSort, ModuleParts, ProcBody, Scope, TypedModule};
+use rt_tree::{BrickSort, ProcBody, TypedModule};
 use rt_words::{List, Memory};
 use std::alloc::Global;
 
 /// What brick `brick`, an own or ENT procedure of the module, takes of the stack, in words. It takes time linear in the
-/// procedure, after one look at each of the module's bricks for the task's own data.
+/// procedure, however many bricks the module has.
 ///
 /// # Errors
 ///
@@ -24,11 +24,10 @@ pub fn frame_of(alloc: Global, module: &TypedModule, brick: u16) -> Result<Frame
     requires procedure { is_procedure (slice_get module.now.bricks brick) ≡ true }
     ensures { IfOk result (λ f. spec.frame module.now brick ≡ Some f) }
 {
-    let parts = module.parts();
-    match parts.bricks.get(usize::from(brick)) {
+    match module.bricks().get(usize::from(brick)) {
         Some(found) => match &found.sort {
             BrickSort::Proc(mode, body) => {
-                let frame = procedure_frame(alloc, parts, mode, body)?;
+                let frame = procedure_frame(alloc, module, mode, body)?;
                 Ok(frame)
             }
             _ => Err(Memory),
@@ -39,15 +38,15 @@ pub fn frame_of(alloc: Global, module: &TypedModule, brick: u16) -> Result<Frame
 
 fn procedure_frame(
     alloc: Global,
-    parts: &ModuleParts,
+    module: &TypedModule,
     mode: &Mode,
     body: &Option<ProcBody>,
 ) -> Result<Frame, Memory>
-    ensures { IfOk result (λ f. spec.frame_by parts.now mode.now body.now ≡ Some f) }
+    ensures { IfOk result (λ f. spec.frame_by «module».now mode.now body.now ≡ Some f) }
 {
     match body {
         Some(body) => {
-            let frame = body_frame(alloc, parts, mode, body)?;
+            let frame = body_frame(alloc, module, mode, body)?;
             Ok(frame)
         }
         None => Err(Memory),
@@ -56,13 +55,13 @@ fn procedure_frame(
 
 fn body_frame(
     alloc: Global,
-    parts: &ModuleParts,
+    module: &TypedModule,
     mode: &Mode,
     body: &ProcBody,
 ) -> Result<Frame, Memory>
-    ensures { IfOk result (λ f. f ≡ spec.body_frame parts.now (parameters_of mode.now) body.now) }
+    ensures { IfOk result (λ f. f ≡ spec.body_frame «module».now (parameters_of mode.now) body.now) }
 {
-    let scope = Scope::of(parts).with_locals(body.locals.as_slice());
+    let scope = module.scope().with_locals(body.locals.as_slice());
     let mut walk = Walk {
         deep: 0,
         recovers: false,
