@@ -10,9 +10,10 @@ ghost use Rattle.rt_operands.specs.Operands.{Found, seen, found_of};
 ghost use Rattle.rt_operands.specs.Outcomes.{Outcome, Gives};
 
 use rt_grammar::{At, Ident};
-use rt_modes::{Mode, ModeTable};
+use rt_modes::Mode;
 use rt_operands::{
-    CheckFault, Meant, Operand, Standing, field_named, lent, record_of, ref_of, through,
+    CheckFault, IndexedRecords, Meant, Operand, Standing, field_named, lent, record_of, ref_of,
+    through,
 };
 use rt_tree::{Callee, Place, Value};
 use rt_words::{Boxed, List, Memory};
@@ -55,7 +56,7 @@ fn record_in(alloc: Global, is: Meant<'_>) -> Result<Option<(Place, u16, Standin
 /// What `.` and a name select.
 pub fn dot<'a>(
     alloc: Global,
-    modes: &'a ModeTable,
+    modes: &'a IndexedRecords,
     name: &Ident,
     at: At,
     operand: Operand<'a>,

@@ -120,7 +120,7 @@ fn name(alloc: Global, bytes: &[u8]) -> Result<Name, Fail> {
 }
 
 /// Record 0: INT N, BYTE M, REF R NEXT, ARRAY(3) INT E, PROC(INT) INT C.
-fn modes(alloc: Global) -> Result<ModeTable, Fail> {
+fn modes(alloc: Global) -> Result<IndexedRecords, Fail> {
     let mut fields = List::new(alloc, 0)?;
     let all: [(&[u8], &[u8]); 5] = [
         (b"N", b"\x02"),
@@ -140,7 +140,7 @@ fn modes(alloc: Global) -> Result<ModeTable, Fail> {
         name: name(alloc, b"R")?,
         fields,
     })?;
-    Ok(ModeTable { records })
+    Ok(IndexedRecords::new(alloc, ModeTable { records })?)
 }
 
 /// The items of the strings of a text, whose first item counts 0.

@@ -16,9 +16,9 @@ use indexmap::{IndexMap, IndexSet};
 use rt_expression::{Chain, Cond, Expr, WrittenMode};
 use rt_exprs::{fit, fit_call, fit_condition, fit_target, fit_val_target};
 use rt_grammar::{At, Ident};
-use rt_modes::{Mode, ModeTable};
+use rt_modes::Mode;
 use rt_nodes::{Place, Stat, Test, Value};
-use rt_operands::{CheckFault, Level, Meaning, Scope};
+use rt_operands::{CheckFault, IndexedRecords, Level, Meaning, Scope};
 use rt_words::Memory;
 use rt_written::{Resolved, Site, find_name, resolve, unfit_record};
 use std::alloc::Global;
@@ -27,7 +27,7 @@ use std::marker::Model;
 /// What a node sees: contracts see it as a `Sight`.
 #[derive(Drop)]
 pub struct Names<'a> {
-    modes: &'a ModeTable,
+    modes: &'a IndexedRecords,
     unfit: &'a [Option<CheckFault>],
     strings: &'a IndexSet<u16>,
     levels: Vec<Level<'a>>,
@@ -52,7 +52,7 @@ impl<'a> Names<'a> {
     /// the names of its declarations.
     pub fn new(
         alloc: Global,
-        modes: &'a ModeTable,
+        modes: &'a IndexedRecords,
         unfit: &'a [Option<CheckFault>],
         strings: &'a IndexSet<u16>,
         level: Level<'a>,

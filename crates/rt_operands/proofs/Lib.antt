@@ -3,3 +3,4 @@ pub mod Same
 pub mod Joins
 pub mod Counting
 pub mod Following
+mod Indexing

@@ -3,3 +3,4 @@ pub mod Outcomes
 pub mod Operands
 pub mod Names
 pub mod Following
+pub mod Indexed

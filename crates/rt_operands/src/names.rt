@@ -1,17 +1,15 @@
-//! Names: of a scope, of a record's fields, and the numbers of strings.
+//! Names of a scope, and the numbers of strings.
 
-ghost use Rattle.std.specs.Prelude.{◌≡◌, IfOk, option_map};
+ghost use Rattle.std.specs.Prelude.{◌≡◌};
 ghost use Rattle.std.specs.Option.{option_copied};
-ghost use Rattle.std.specs.Str.{bytes_eq};
 ghost use Rattle.rt_operands.specs.Names as spec;
-ghost use Rattle.rt_operands.specs.Operands.{seen, found_of, named, field_from, field_of};
+ghost use Rattle.rt_operands.specs.Operands.{seen, found_of, named};
 ghost use Rattle.rt_operands.specs.Outcomes.{Gives};
 
 use crate::fault::CheckFault;
 use crate::operand::{Meant, Operand, Standing};
 use crate::scope::{Meaning, Scope};
 use rt_grammar::At;
-use rt_modes::{Field, Mode, ModeTable};
 use rt_nodes::Place;
 
 /// What a name stands for in the innermost level that has it.
@@ -53,32 +51,6 @@ pub fn name_at<'a>(meaning: Option<&'a Meaning>, at: At) -> Result<Meant<'a>, Ch
             Meaning::Loop(local) => Ok(Meant::Loop(*local)),
             Meaning::Unfit(fault) => Err(*fault),
             _ => Err(CheckFault::WrongMode(at)),
-        },
-    }
-}
-
-/// The number and the mode of the first field of a name.
-#[tactic(auto, unfolding(crate::specs::Operands::field_from))]
-fn field_in<'a>(fields: &'a [Field], name: &[u8]) -> Option<(usize, &'a Mode)>
-    ensures { option_map (λ x. (x.0, x.1.now)) result ≡ field_from 0 fields.now name.now }
-{
-    for (k, field) in fields.iter().enumerate() {
-        if field.name.as_slice() == name {
-            return Some((k, &field.mode));
-        }
-    }
-    None
-}
-
-/// The number and the mode of a record's field.
-pub fn field_named<'a>(modes: &'a ModeTable, number: u16, name: &[u8]) -> Option<(u16, &'a Mode)>
-    ensures { option_map (λ x. (x.0, x.1.now)) result ≡ field_of modes.now.records number name.now }
-{
-    match modes.records.get(number as usize) {
-        None => None,
-        Some(definition) => match field_in(definition.fields.as_slice(), name) {
-            Some((k, mode)) if k < 65536 => Some((k as u16, mode)),
-            _ => None,
         },
     }
 }

@@ -1,8 +1,9 @@
 //! What names stand for.
 
 use crate::fault::CheckFault;
+use crate::records::IndexedRecords;
 use indexmap::{IndexMap, IndexSet};
-use rt_modes::{Mode, ModeTable};
+use rt_modes::Mode;
 
 /// What a name stands for.
 #[derive(Debug, Drop)]
@@ -39,7 +40,7 @@ pub type Level<'n> = IndexMap<&'n [u8], Meaning>;
 #[derive(Drop)]
 pub struct Scope<'a> {
     /// The records of the module.
-    pub modes: &'a ModeTable,
+    pub modes: &'a IndexedRecords,
     /// The items of the module's strings in their order; a string's number is its place here, from 0.
     pub strings: &'a IndexSet<u16>,
     /// The levels of names, innermost first.

@@ -78,7 +78,7 @@ fn judge_item(scope: &Scope<'_>, item: &DataItem, given: &Given, faults: &mut Op
 {
     match given {
         Given::Mode(mode) => match &item.start {
-            None => note_bad(has_default(scope.modes, mode), item.name.at, faults),
+            None => note_bad(has_default(scope.modes.table(), mode), item.name.at, faults),
             Some(start) => judge_start(scope, item.name.at, start, mode, faults),
         },
         Given::Unfit(fault) => {
@@ -158,7 +158,7 @@ fn make_item(
 {
     match given {
         Given::Mode(mode) => match start {
-            None => make_default(alloc, scope.modes, mode),
+            None => make_default(alloc, scope.modes.table(), mode),
             Some(start) => make_start(alloc, scope, start, mode),
         },
         Given::Unfit(_) => Ok(DataStart::Number(0)),

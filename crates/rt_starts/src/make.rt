@@ -35,7 +35,7 @@ pub fn make_start(
             let found = find_place(scope, name, selectors.as_slice());
             make_place(alloc, scope.modes, selectors.as_slice(), found)
         }
-        Start::List(parts, _, _) => match want(scope.modes, parts.as_slice(), mode) {
+        Start::List(parts, _, _) => match want(scope.modes.table(), parts.as_slice(), mode) {
             Wanted::Elements(of) => {
                 let made = make_each(alloc, scope, parts.as_slice(), of)?;
                 Ok(DataStart::List(made))

@@ -11,9 +11,9 @@ ghost use Rattle.rt_written.specs.Verdicts.{with_faults};
 
 use rt_bricks::Selector;
 use rt_grammar::{At, Ident};
-use rt_modes::{Mode, ModeTable};
+use rt_modes::Mode;
 use rt_nodes::{DataStart, same_mode};
-use rt_operands::{CheckFault, Meaning, Scope, field_named, find as find_name};
+use rt_operands::{CheckFault, IndexedRecords, Meaning, Scope, field_named, find as find_name};
 use rt_words::{List, Memory};
 use rt_written::note;
 use std::alloc::Global;
@@ -51,7 +51,7 @@ pub enum Found<'a> {
 }
 
 /// Where a selector leads.
-fn selected<'a>(modes: &'a ModeTable, selector: &Selector, mode: &'a Mode) -> Step<'a>
+fn selected<'a>(modes: &'a IndexedRecords, selector: &Selector, mode: &'a Mode) -> Step<'a>
     ensures { step_of result ≡ spec.step modes.now.records selector.now mode.now }
 {
     match selector {
@@ -60,7 +60,7 @@ fn selected<'a>(modes: &'a ModeTable, selector: &Selector, mode: &'a Mode) -> St
     }
 }
 
-fn field<'a>(modes: &'a ModeTable, name: &Ident, mode: &'a Mode) -> Step<'a>
+fn field<'a>(modes: &'a IndexedRecords, name: &Ident, mode: &'a Mode) -> Step<'a>
     ensures { step_of result ≡ spec.field modes.now.records name.now (out-Mode mode.now) }
 {
     match mode {
@@ -85,7 +85,7 @@ fn element<'a>(number: u16, mode: &'a Mode) -> Step<'a>
 }
 
 /// Where selectors lead.
-fn along<'a>(modes: &'a ModeTable, selectors: &[Selector], mode: &'a Mode) -> Reached<'a>
+fn along<'a>(modes: &'a IndexedRecords, selectors: &[Selector], mode: &'a Mode) -> Reached<'a>
     ensures { reached_of result ≡ spec.along modes.now.records selectors.now mode.now }
 {
     let mut inner = mode;
@@ -102,7 +102,7 @@ fn along<'a>(modes: &'a ModeTable, selectors: &[Selector], mode: &'a Mode) -> Re
 /// The numbers of the fields and elements on the way.
 fn path(
     alloc: Global,
-    modes: &ModeTable,
+    modes: &IndexedRecords,
     selectors: &[Selector],
     mode: &Mode,
 ) -> Result<List<u16>, Memory>
@@ -133,7 +133,7 @@ pub fn find_place<'a>(scope: &Scope<'a>, name: &Ident, selectors: &[Selector]) -
 }
 
 fn place_of<'a>(
-    modes: &'a ModeTable,
+    modes: &'a IndexedRecords,
     at: At,
     selectors: &[Selector],
     meaning: &'a Meaning,
@@ -230,7 +230,7 @@ pub fn note_private(at: At, found: Found<'_>, wanted: &Mode, faults: &mut Option
 /// What it is where it starts an item.
 pub fn make_place(
     alloc: Global,
-    modes: &ModeTable,
+    modes: &IndexedRecords,
     selectors: &[Selector],
     found: Found<'_>,
 ) -> Result<DataStart, Memory>

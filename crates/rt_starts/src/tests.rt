@@ -6,7 +6,7 @@ use rt_grammar::{At, Ident};
 use rt_headings::{Given, Part};
 use rt_modes::{Mode, ModeTable};
 use rt_nodes::DataStart;
-use rt_operands::{CheckFault, Scope};
+use rt_operands::{CheckFault, IndexedRecords, Scope};
 use rt_words::{List, Name};
 use std::alloc::Global;
 use std::test::Fail;
@@ -41,9 +41,8 @@ fn parts(alloc: Global, mode: Mode) -> Result<List<Part>, Fail> {
 
 /// The number with which `A` starts, or the fault and its item.
 fn started(alloc: Global, number: Option<u16>, mode: Mode) -> Result<(u16, u16), Fail> {
-    let modes = ModeTable {
-        records: List::new(alloc, 0)?,
-    };
+    let records = List::new(alloc, 0)?;
+    let modes = IndexedRecords::new(alloc, ModeTable { records })?;
     let strings = IndexSet::new(alloc);
     let scope = Scope {
         modes: &modes,

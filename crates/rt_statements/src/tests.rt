@@ -4,7 +4,7 @@ use rt_bricks::{Declaration, ProcedureBrick, parse_module};
 use rt_items::items;
 use rt_modes::ModeTable;
 use rt_nodes::ProcBody;
-use rt_operands::CheckFault;
+use rt_operands::{CheckFault, IndexedRecords};
 use rt_words::List;
 use std::alloc::Global;
 use std::test::Fail;
@@ -37,9 +37,8 @@ fn first(alloc: Global, declarations: &[Declaration]) -> Result<Shown, Fail> {
 }
 
 fn judged(alloc: Global, brick: &ProcedureBrick) -> Result<Shown, Fail> {
-    let modes = ModeTable {
-        records: List::new(alloc, 0)?,
-    };
+    let records = List::new(alloc, 0)?;
+    let modes = IndexedRecords::new(alloc, ModeTable { records })?;
     let strings = IndexSet::new(alloc);
     let mut names = Names::new(alloc, &modes, &[], &strings, IndexMap::new(alloc))?;
     Ok(numbers_of(judge_procedure(alloc, &mut names, brick)))

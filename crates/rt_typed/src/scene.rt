@@ -14,7 +14,7 @@ use rt_declare::declared_names;
 use rt_headings::{Heading, read_bricks};
 use rt_meanings::{faults_led_to, mode_level, module_level, settle};
 use rt_modes::ModeTable;
-use rt_operands::{CheckFault, Level};
+use rt_operands::{CheckFault, IndexedRecords, Level};
 use rt_records::{either, read_records};
 use rt_sizes::Size;
 use rt_words::{List, Memory};
@@ -24,7 +24,7 @@ use std::alloc::Global;
 #[derive(Drop)]
 pub struct Scene<'m> {
     /// The records, with those of their fields that have a fit mode.
-    pub modes: ModeTable,
+    pub modes: IndexedRecords,
     /// The size of each record, where it has one.
     pub sizes: List<Option<Size>>,
     /// Of each record the fault to which it leads, where there is one.
@@ -55,10 +55,11 @@ pub fn read_scene<'m>(alloc: Global, declarations: &'m [Declaration]) -> Result<
     let unfit = faults_led_to(alloc, records.records.as_slice(), records.unfit.as_slice())?;
     let bricks = settle(alloc, bricks.bricks, unfit.as_slice())?;
     let level = module_level(alloc, &names, bricks.as_slice())?;
+    let table = ModeTable {
+        records: records.records,
+    };
     Ok(Scene {
-        modes: ModeTable {
-            records: records.records,
-        },
+        modes: IndexedRecords::new(alloc, table)?,
         sizes: records.sizes,
         unfit,
         bricks,

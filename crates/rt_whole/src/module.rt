@@ -38,8 +38,6 @@ pub fn read_module(alloc: Global, source: &Module) -> Result<ModuleParts, CheckF
 {
     let declarations = source.declarations.as_slice();
     let scene = read_scene(alloc, declarations)?;
-    let texts = read_texts(alloc, declarations, &scene.modes, scene.bricks.as_slice())?;
-    let strings = string_items(alloc, texts.as_slice())?;
     let Scene {
         modes,
         sizes,
@@ -48,6 +46,8 @@ pub fn read_module(alloc: Global, source: &Module) -> Result<ModuleParts, CheckF
         level,
         fault,
     } = scene;
+    let texts = read_texts(alloc, declarations, modes.table(), bricks.as_slice())?;
+    let strings = string_items(alloc, texts.as_slice())?;
     let mut names = Names::new(alloc, &modes, unfit.as_slice(), &strings, level)?;
     let contents = read_contents(
         alloc,
@@ -63,7 +63,7 @@ pub fn read_module(alloc: Global, source: &Module) -> Result<ModuleParts, CheckF
             let strings = copy_texts(alloc, texts.as_slice())?;
             Ok(ModuleParts {
                 title: source.title.copy(alloc)?,
-                modes,
+                modes: modes.into_table(),
                 bricks: fill(alloc, bricks, contents.fillings)?,
                 strings,
             })
