@@ -10,9 +10,8 @@ ghost use Rattle.rt_meaning.specs.States as states;
 use rt_resolve::{ModuleCode, code_of, module_at};
 use rt_tree::{Datum, Proc};
 use rt_words::{List, Memory};
-use rt_work::{Env, Item, Next, Scene, SeqNode, Stack, advance, copy_scene, from_label};
+use rt_work::{Env, Item, Next, Scene, Stack, advance, copy_scene};
 use std::alloc::Global;
-use std::rc::Rc;
 
 /// An activation of a procedure.
 #[derive(Drop)]
@@ -71,15 +70,6 @@ fn locals_of(args: List<Datum>, size: usize) -> Result<List<Datum>, Memory>
     Ok(locals)
 }
 
-fn body_todo(alloc: Global, body: &Rc<SeqNode>) -> Result<Stack<Item>, Memory>
-    ensures { IfOk result (λ todo. n.items todo ≡ task.Do (n.seq body.now.value) ∷ task.Leave ∷ []) }
-{
-    let mut todo = Stack::new(alloc);
-    todo.push(Item::Leave)?;
-    todo.push(Item::Do(body.clone()?))?;
-    Ok(todo)
-}
-
 fn service_todo(alloc: Global, trap: u16) -> Result<Stack<Item>, Memory>
     ensures { IfOk result (λ todo. n.items todo ≡ task.Serve trap ∷ task.Leave ∷ []) }
 {
@@ -102,7 +92,7 @@ pub fn entered(
         Some(code) => Ok(Act {
             proc: f,
             scene: Scene {
-                todo: body_todo(alloc, &code.body)?,
+                todo: code.body.begin(alloc)?,
                 values: Stack::new(alloc),
                 locals: locals_of(args, code.size)?,
             },
@@ -127,12 +117,12 @@ pub fn leapt(
 ) -> Result<Stack<Item>, Memory>
     ensures { IfOk result (λ todo. n.items todo ≡ step.leapt ((world.world modules.now).code f) label) }
 {
-    let mut todo = Stack::new(alloc);
-    if let Some(code) = code_of(modules, f) {
-        todo.push(Item::Leave)?;
-        if !from_label(label, &code.body, &mut todo)? {
-            return Ok(Stack::new(alloc));
-        }
+    let found = match code_of(modules, f) {
+        Some(code) => code.body.from_label(alloc, label)?,
+        None => None,
+    };
+    match found {
+        Some(todo) => Ok(todo),
+        None => Ok(Stack::new(alloc)),
     }
-    Ok(todo)
 }

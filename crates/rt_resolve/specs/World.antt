@@ -20,7 +20,7 @@ pub record World : Type 0 where
 -- ---- what the code holds of them
 
 abbrev pub code : CodeNode → Code
-code c = record { body = n.seq c.body.value; size = c.size }
+code c = record { body = n.seq c.body; size = c.size }
 
 abbrev pub code_in : Option (Option CodeNode) → Option Code
 code_in None = None

@@ -7,13 +7,12 @@ ghost use Rattle.rt_resolve.specs.World as world;
 
 use rt_tree::Proc;
 use rt_words::List;
-use rt_work::{Env, SeqNode};
-use std::rc::Rc;
+use rt_work::{Body, Env};
 
 /// A procedure that has a body.
 #[derive(Drop)]
 pub struct Code {
-    pub body: Rc<SeqNode>,
+    pub body: Body,
     /// How many locals, parameters among them.
     pub size: usize,
 }

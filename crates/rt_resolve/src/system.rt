@@ -10,12 +10,11 @@ ghost use Rattle.rt_resolve.specs.Systems as systems;
 
 use crate::bindings::bounds;
 use crate::code::{Code, ModuleCode};
-use crate::share::shared;
 use crate::starting::{Home, bricks_contents, texts_contents};
 use crate::statements::body;
 use rt_tree::{Brick, BrickSort, ProcBody, Scope, TypedModule};
 use rt_words::{Bytes, List, Memory};
-use rt_work::{Env, ModuleStore};
+use rt_work::{Body, Env, ModuleStore};
 use std::alloc::Global;
 
 /// What a system begins with: what its tasks read of its modules, and its starting store.
@@ -63,7 +62,7 @@ fn procedure_code(alloc: Global, scope: &Scope<'_>, procedure: &ProcBody) -> Res
     let inner = scope.with_locals(procedure.locals.as_slice());
     let tree = body(alloc, &inner, &procedure.body)?;
     Ok(Code {
-        body: shared(alloc, tree)?,
+        body: Body::new(alloc, tree)?,
         size: procedure.locals.len(),
     })
 }

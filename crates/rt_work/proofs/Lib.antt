@@ -1,3 +1,4 @@
 mod Calls
 mod Changes
+mod Firsts
 mod Taken

@@ -3,3 +3,4 @@ pub mod Stores
 pub mod Task
 pub mod Weights
 pub mod Nodes
+pub mod Labels

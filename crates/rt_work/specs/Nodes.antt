@@ -164,11 +164,6 @@ env e = record { item = λ b k. item_of (brick_of e b) k; text = λ k. text_of e
 abbrev pub nowhere : Env
 nowhere = record { item = λ b k. item_of (supplied 0) k; text = λ k. datum.Row (location.Shared (Text 0 k) []) 0; proc = λ b. supplied 0 }
 
--- what is to be done from a label on, where it is there
-abbrev pub there_is : Bool → List Item → Option (List Item)
-there_is true todo = Some todo
-there_is false todo = None
-
 -- the next visible step, with what the code holds after the invisible work
 abbrev pub made : NextNode → List Item → List Datum → List Datum → Next
 made (x.Reads a) todo vs ls = task.Reads a todo vs ls

@@ -93,7 +93,7 @@ pub fn copy_values(alloc: Global, values: &Stack<Datum>) -> Result<Stack<Datum>,
     Ok(copy)
 }
 
-fn copy_todo(alloc: Global, todo: &Stack<Item>) -> Result<Stack<Item>, Memory>
+pub fn copy_todo(alloc: Global, todo: &Stack<Item>) -> Result<Stack<Item>, Memory>
     ensures { IfOk result (λ xs. n.items xs ≡ n.items todo.now) }
 {
     let mut copy = Stack::new(alloc);

@@ -15,7 +15,7 @@ mod values;
 mod work;
 
 pub use copies::{copy_scene, copy_values};
-pub use labels::from_label;
+pub use labels::Body;
 pub use node::{CondNode, LabelsNode, PathNode, SeqNode, StmtNode, TermNode, TermsNode};
 pub use request::Request;
 pub use scene::{Env, Item, Next, Scene};
