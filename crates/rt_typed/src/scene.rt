@@ -58,8 +58,9 @@ pub fn read_scene<'m>(alloc: Global, declarations: &'m [Declaration]) -> Result<
     let table = ModeTable {
         records: records.records,
     };
+    let modes = IndexedRecords::new(alloc, table)?;
     Ok(Scene {
-        modes: IndexedRecords::new(alloc, table)?,
+        modes,
         sizes: records.sizes,
         unfit,
         bricks,

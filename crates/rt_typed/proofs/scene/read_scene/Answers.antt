@@ -4,6 +4,7 @@ use Rattle.rt_headings.specs.declared.bricks.Heading.{Heading}
 use Rattle.rt_headings.specs.Bricks.{bricks, brick_faults}
 use Rattle.rt_meanings.specs.Levels.{mode_names}
 use Rattle.rt_meanings.specs.Settled.{settled}
+use Rattle.rt_modes.specs.declared.mode.ModeTable.{ModeTable}
 use Rattle.rt_modes.specs.declared.mode.RecordDef.{RecordDef}
 use Rattle.rt_operands.specs.declared.fault.CheckFault.{CheckFault}
 use Rattle.rt_operands.specs.Names.{find_in}
@@ -22,7 +23,7 @@ use Rattle.rt_typed.proofs.scene.read_scene.Goals as goal
 pub returns-clause-records : goal.returns-clause-records
 returns-clause-records c =
     let seen : find_in (c.in_ok-mode_level.field-0 ∷ []) ≡ modes_seen c.args.declarations.now = all_seen c.in_ok-mode_level.field-0 (mode_names (scope c.args.declarations.now)) (c.in_ok-mode_level.ensures ∙ ap mode_names c.in_ok-names.ensures.names) in
-    c.in_ok-records.ensures.records ∙ ap (λ (n : Names). (table n c.args.declarations.now).records) seen
+    ap (λ (t : ModeTable). t.records) c.in_ok-modes.ensures ∙ c.in_ok-records.ensures.records ∙ ap (λ (n : Names). (table n c.args.declarations.now).records) seen
 
 pub returns-clause-sizes : goal.returns-clause-sizes
 returns-clause-sizes c =
