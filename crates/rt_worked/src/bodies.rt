@@ -1,6 +1,6 @@
 //! Rules of visible steps, each by a body whose steps are counted by hand.
 
-use crate::runs::{task, trace, with_root};
+use crate::runs::{task, traced, with_root};
 use std::alloc::Global;
 use std::process::Abort;
 use std::test::Fail;
@@ -17,7 +17,7 @@ type Row<'a> = (&'a str, &'a [u8], &'a [u8]);
 
 fn assert_row(rt: &impl Abort, alloc: Global, (body, steps, output): Row<'_>) -> Result<(), Fail> {
     let modules = [with_root(alloc, DECLARED, body)?];
-    let found = trace(alloc, &modules, &[task(1, 5)])?;
+    let found = traced(alloc, &modules, &[task(1, 5)])?;
     assert_eq!(rt; found.steps.as_slice(), steps, "{body}");
     assert_eq!(rt; found.output.as_slice(), output, "{body}");
     Ok(())

@@ -1,6 +1,6 @@
 //! Errors: those that end a task, and those that go to a handler.
 
-use crate::runs::{assert_reached, reached, task, trace, typed, with_root};
+use crate::runs::{assert_reached, reached, task, traced, typed, with_root};
 use crate::texts::LIBRARY;
 use rt_rules::State;
 use std::test::Fail;
@@ -17,7 +17,7 @@ ENT PROC LAST(); RROUT('Z') ENDPROC;";
 fn subscript_errors_end_tasks(rt: HostRuntime) -> Result<(), Fail> {
     let a = rt.alloc();
     let tasks = [task(1, 5), task(1, 6), task(1, 7)];
-    let found = trace(a, &[typed(a, SUBSCRIPTS)?], &tasks)?;
+    let found = traced(a, &[typed(a, SUBSCRIPTS)?], &tasks)?;
     assert_eq!(rt; found.steps.as_slice(), b"crcstececcstts".as_slice());
     assert_eq!(rt; found.output.as_slice(), b"CZ".as_slice());
     let wanted = [State::Failed(1), State::Failed(1), State::Ended];
@@ -44,7 +44,7 @@ const HANDLED: [(&str, &[u8], State); 3] = [
 fn errors_go_to_handler(rt: HostRuntime) -> Result<(), Fail> {
     let a = rt.alloc();
     for (body, steps, end) in HANDLED {
-        let found = trace(a, &[with_root(a, HANDLER, body)?], &[task(1, 4)])?;
+        let found = traced(a, &[with_root(a, HANDLER, body)?], &[task(1, 4)])?;
         assert_eq!(rt; found.steps.as_slice(), steps, "{body}");
         assert_eq!(rt; found.ends.as_slice(), [end].as_slice(), "{body}");
     }

@@ -37,7 +37,7 @@ const G: u16 = 2;
 
 const RROUT: u16 = 3;
 
-fn called(target: &Target) -> Called {
+fn target_of(target: &Target) -> Called {
     match target {
         Target::Brick(number) => Brick(*number),
         Target::Variable(_) => Variable,
@@ -48,7 +48,7 @@ fn called(target: &Target) -> Called {
 fn points_of(alloc: Global, frame: &Frame) -> Result<Vec<Point>, Fail> {
     let mut points = Vec::new(alloc);
     for point in frame.calls.as_slice() {
-        points.push((point.depth, point.args, called(&point.target)))?;
+        points.push((point.depth, point.args, target_of(&point.target)))?;
     }
     Ok(points)
 }

@@ -1,6 +1,6 @@
 //! Trees that no text gives: of ERL, which a text can't use yet, and of a byte that is read right behind a string.
 
-use crate::runs::{task, trace};
+use crate::runs::{task, traced};
 use rt_frames::{Frame, frame_of};
 use rt_modes::{Mode, ModeTable};
 use rt_tree::{
@@ -161,7 +161,7 @@ fn bytes_of_strings_are_read(rt: HostRuntime) -> Result<(), Fail> {
     let mut bricks = one(a, brick(a, Kind::Svc, b"RROUT", takes_byte, None)?)?;
     bricks.push(procedure(a, List::new(a, 0)?, 0, puts_second_byte(a)?)?)?;
     let strings = one(a, Bytes::from_slice(a, b"AB")?)?;
-    let found = trace(a, &[module(a, bricks, strings)?], &[task(1, 1)])?;
+    let found = traced(a, &[module(a, bricks, strings)?], &[task(1, 1)])?;
     assert_eq!(rt; found.steps.as_slice(), b"crcstts".as_slice());
     assert_eq!(rt; found.output.as_slice(), b"B".as_slice());
     Ok(())

@@ -93,16 +93,16 @@ pub struct Trace {
 }
 
 /// What a system of tasks whose priorities aren't 0 does without ticks and without input.
-pub fn trace(alloc: Global, modules: &[TypedModule], tasks: &[SourceTask]) -> Result<Trace, Fail>
+pub fn traced(alloc: Global, modules: &[TypedModule], tasks: &[SourceTask]) -> Result<Trace, Fail>
     requires some { 1 ≤ length tasks.now }
     requires few { length tasks.now ≤ 32 }
     requires above_zero { All (λ p. 0 < p) (roots.priorities tasks.now) }
 {
     let state = begin(alloc, modules, tasks)?;
-    followed(alloc, state)
+    traced_from(alloc, state)
 }
 
-fn followed(alloc: Global, state: SourceState) -> Result<Trace, Fail>
+fn traced_from(alloc: Global, state: SourceState) -> Result<Trace, Fail>
     requires stamp { (source.state_of state).rules.stamp ≤ 32 }
     requires clock { (source.state_of state).rules.clock ≡ 0 }
 {

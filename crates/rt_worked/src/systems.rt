@@ -2,7 +2,7 @@
 
 ghost use Rattle.std.specs.Prelude.{◌≤◌, length};
 
-use crate::runs::{assert_reached, reached, task, trace, typed};
+use crate::runs::{assert_reached, reached, task, traced, typed};
 use rt_resolve::are_numbered;
 use rt_rules::State;
 use rt_runs::{Reached, run_system};
@@ -21,7 +21,7 @@ fn hello_runs(rt: HostRuntime) -> Result<(), Fail> {
     assert_reached(&rt, &whole, b"HI\n", &[State::Ended]);
     let before = reached(a, &modules, &[task(1, 2)], &[], &[], 11)?;
     assert_reached(&rt, &before, b"HI\n", &[State::Ready]);
-    let found = trace(a, &modules, &[task(1, 2)])?;
+    let found = traced(a, &modules, &[task(1, 2)])?;
     assert_eq!(rt; found.steps.as_slice(), b"ccstcstcstts".as_slice());
     Ok(())
 }
@@ -119,7 +119,7 @@ const DELAY: &str =
 #[test]
 fn delay_without_ticks(rt: HostRuntime) -> Result<(), Fail> {
     let a = rt.alloc();
-    let found = trace(a, &[typed(a, DELAY)?], &[task(1, 2)])?;
+    let found = traced(a, &[typed(a, DELAY)?], &[task(1, 2)])?;
     assert_eq!(rt; found.steps.as_slice(), b"ccs".as_slice());
     assert_eq!(rt; found.ends.as_slice(), [State::Delayed(2)].as_slice());
     Ok(())
@@ -172,7 +172,7 @@ const SHOWER: &str = "TITLE B; SVC PROC(BYTE) RROUT; ENT PROC SHOW(INT K); RROUT
 fn outside_procedure_is_bound(rt: HostRuntime) -> Result<(), Fail> {
     let a = rt.alloc();
     let modules = [typed(a, CALLER)?, typed(a, SHOWER)?];
-    let found = trace(a, &modules, &[task(1, 1)])?;
+    let found = traced(a, &modules, &[task(1, 1)])?;
     assert_eq!(rt; found.steps.as_slice(), b"cccsttts".as_slice());
     assert_eq!(rt; found.output.as_slice(), b"A".as_slice());
     Ok(())
