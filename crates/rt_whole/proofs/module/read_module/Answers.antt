@@ -27,8 +27,8 @@ returns-in-Some-clause-only c = λ us rise led none.
     let answer : UnlessMemory c.in-Some.fault (Refuses c.args.source.now.declarations c.in-Some.fault) = unless_memory (Refuses c.args.source.now.declarations c.in-Some.fault) c.in-Some.fault refused in
     answered c.args.source.now us led none (Err c.in-Some.fault) tt answer
 
-pub returns-clause-tree : goal.returns-clause-tree
-returns-clause-tree c = λ rise.
+pub returns-in_ok-fill-in-None-clause-tree : goal.returns-in_ok-fill-in-None-clause-tree
+returns-in_ok-fill-in-None-clause-tree c = λ rise.
     let parts : AreParts c.args.source.now.declarations c.in_ok-scene.scene.modes (filled c.in_ok-scene.scene.bricks c.in_ok-contents.contents.fillings) (map text_of c.in_ok-texts.texts) = subst (λ (ds : List Declaration). AreParts ds c.in_ok-scene.scene.modes (filled c.in_ok-scene.scene.bricks c.in_ok-contents.contents.fillings) (map text_of c.in_ok-texts.texts)) c.as_slice-declarations.ensures (read_parts c.as_slice-declarations.result.now c.in_ok-scene.scene.modes c.in_ok-scene.scene.sizes c.as_slice-4.result.now c.in_ok-scene.scene.unfit c.as_slice-3.result.now c.in_ok-scene.scene.bricks c.as_slice.result.now c.as_slice-5.result.now (names_of c.in_ok-scene.scene.level) c.in_ok-scene.scene.fault c.in_ok-texts.texts c.as_slice-2.result.now c.in_ok-strings.strings.keys c.in_ok-names.names c.in_ok-contents.contents.fillings c.in_ok-contents.contents.fault
     c.as_slice.ensures c.as_slice-2.ensures c.as_slice-3.ensures c.as_slice-4.ensures c.as_slice-5.ensures c.in_ok-scene.ensures.records c.in_ok-scene.ensures.sizes c.in_ok-scene.ensures.led c.in_ok-scene.ensures.bricks c.in_ok-scene.ensures.level c.in_ok-scene.ensures.fault (c.in_ok-texts.ensures ∙ ap (λ (t : ModeTable). texts_from t.records [] c.as_slice.result.now c.as_slice-declarations.result.now) c.table.ensures) c.in_ok-strings.ensures c.in_ok-names.ensures c.in_ok-contents.ensures.fault
     c.in_ok-contents.ensures.fillings (subst StringsRise (sym c.as_slice-declarations.ensures) rise) (sym c.either.ensures ∙ c.in-None.is)) in
@@ -37,8 +37,8 @@ returns-clause-tree c = λ rise.
     let typed : IsTyped c.args.source.now (parts_of c.in_ok-copy-in-None.field-0 c.in_ok-scene.scene.modes c.in_ok-fill-in-None.field-0 c.in_ok-strings-in-None.strings) = typed_with c.args.source.now c.in_ok-scene.scene.modes (filled c.in_ok-scene.scene.bricks c.in_ok-contents.contents.fillings) (map text_of c.in_ok-texts.texts) (parts_of c.in_ok-copy-in-None.field-0 c.in_ok-scene.scene.modes c.in_ok-fill-in-None.field-0 c.in_ok-strings-in-None.strings) parts made in
     subst (λ (m : ModeTable). IsTyped c.args.source.now (parts_of c.in_ok-copy-in-None.field-0 m c.in_ok-fill-in-None.field-0 c.in_ok-strings-in-None.strings)) (sym c.into_table-in-None.ensures) typed
 
-pub returns-clause-only : goal.returns-clause-only
-returns-clause-only c = λ us rise led none.
+pub returns-in_ok-fill-in-None-clause-only : goal.returns-in_ok-fill-in-None-clause-only
+returns-in_ok-fill-in-None-clause-only c = λ us rise led none.
     let parts : AreParts c.args.source.now.declarations c.in_ok-scene.scene.modes (filled c.in_ok-scene.scene.bricks c.in_ok-contents.contents.fillings) (map text_of c.in_ok-texts.texts) = subst (λ (ds : List Declaration). AreParts ds c.in_ok-scene.scene.modes (filled c.in_ok-scene.scene.bricks c.in_ok-contents.contents.fillings) (map text_of c.in_ok-texts.texts)) c.as_slice-declarations.ensures (read_parts c.as_slice-declarations.result.now c.in_ok-scene.scene.modes c.in_ok-scene.scene.sizes c.as_slice-4.result.now c.in_ok-scene.scene.unfit c.as_slice-3.result.now c.in_ok-scene.scene.bricks c.as_slice.result.now c.as_slice-5.result.now (names_of c.in_ok-scene.scene.level) c.in_ok-scene.scene.fault c.in_ok-texts.texts c.as_slice-2.result.now c.in_ok-strings.strings.keys c.in_ok-names.names c.in_ok-contents.contents.fillings c.in_ok-contents.contents.fault
     c.as_slice.ensures c.as_slice-2.ensures c.as_slice-3.ensures c.as_slice-4.ensures c.as_slice-5.ensures c.in_ok-scene.ensures.records c.in_ok-scene.ensures.sizes c.in_ok-scene.ensures.led c.in_ok-scene.ensures.bricks c.in_ok-scene.ensures.level c.in_ok-scene.ensures.fault (c.in_ok-texts.ensures ∙ ap (λ (t : ModeTable). texts_from t.records [] c.as_slice.result.now c.as_slice-declarations.result.now) c.table.ensures) c.in_ok-strings.ensures c.in_ok-names.ensures c.in_ok-contents.ensures.fault
     c.in_ok-contents.ensures.fillings (subst StringsRise (sym c.as_slice-declarations.ensures) rise) (sym c.either.ensures ∙ c.in-None.is)) in
