@@ -35,7 +35,7 @@ returns-in_ok-fill-in-None-clause-tree c = λ rise.
     let made : parts_of c.in_ok-copy-in-None.field-0 c.in_ok-scene.scene.modes c.in_ok-fill-in-None.field-0 c.in_ok-strings-in-None.strings ≡ parts_of c.args.source.now.title c.in_ok-scene.scene.modes (filled c.in_ok-scene.scene.bricks c.in_ok-contents.contents.fillings) (map (λ (t : ℕ × List ℕ). t.1) (map text_of c.in_ok-texts.texts)) =
     same_parts c.in_ok-scene.scene.modes _ _ _ _ _ _ c.in_ok-copy-in-None.ensures c.in_ok-fill-in-None.ensures (c.in_ok-strings-in-None.ensures ∙ ap (λ (xs : List Text). map (λ (t : ℕ × List ℕ). t.1) (map text_of xs)) c.as_slice-in-None.ensures) in
     let typed : IsTyped c.args.source.now (parts_of c.in_ok-copy-in-None.field-0 c.in_ok-scene.scene.modes c.in_ok-fill-in-None.field-0 c.in_ok-strings-in-None.strings) = typed_with c.args.source.now c.in_ok-scene.scene.modes (filled c.in_ok-scene.scene.bricks c.in_ok-contents.contents.fillings) (map text_of c.in_ok-texts.texts) (parts_of c.in_ok-copy-in-None.field-0 c.in_ok-scene.scene.modes c.in_ok-fill-in-None.field-0 c.in_ok-strings-in-None.strings) parts made in
-    subst (λ (m : ModeTable). IsTyped c.args.source.now (parts_of c.in_ok-copy-in-None.field-0 m c.in_ok-fill-in-None.field-0 c.in_ok-strings-in-None.strings)) (sym c.into_table-in-None.ensures) typed
+    subst (λ (m : ModeTable). IsTyped c.args.source.now (parts_of c.in_ok-copy-in-None.field-0 m c.in_ok-fill-in-None.field-0 c.in_ok-strings-in-None.strings)) (sym c.into_table.ensures) typed
 
 pub returns-in_ok-fill-in-None-clause-only : goal.returns-in_ok-fill-in-None-clause-only
 returns-in_ok-fill-in-None-clause-only c = λ us rise led none.
@@ -45,5 +45,5 @@ returns-in_ok-fill-in-None-clause-only c = λ us rise led none.
     let made : parts_of c.in_ok-copy-in-None.field-0 c.in_ok-scene.scene.modes c.in_ok-fill-in-None.field-0 c.in_ok-strings-in-None.strings ≡ parts_of c.args.source.now.title c.in_ok-scene.scene.modes (filled c.in_ok-scene.scene.bricks c.in_ok-contents.contents.fillings) (map (λ (t : ℕ × List ℕ). t.1) (map text_of c.in_ok-texts.texts)) =
     same_parts c.in_ok-scene.scene.modes _ _ _ _ _ _ c.in_ok-copy-in-None.ensures c.in_ok-fill-in-None.ensures (c.in_ok-strings-in-None.ensures ∙ ap (λ (xs : List Text). map (λ (t : ℕ × List ℕ). t.1) (map text_of xs)) c.as_slice-in-None.ensures) in
     let typed : IsTyped c.args.source.now (parts_of c.in_ok-copy-in-None.field-0 c.in_ok-scene.scene.modes c.in_ok-fill-in-None.field-0 c.in_ok-strings-in-None.strings) = typed_with c.args.source.now c.in_ok-scene.scene.modes (filled c.in_ok-scene.scene.bricks c.in_ok-contents.contents.fillings) (map text_of c.in_ok-texts.texts) (parts_of c.in_ok-copy-in-None.field-0 c.in_ok-scene.scene.modes c.in_ok-fill-in-None.field-0 c.in_ok-strings-in-None.strings) parts made in
-    let here : IsTyped c.args.source.now (parts_of c.in_ok-copy-in-None.field-0 c.into_table-in-None.result c.in_ok-fill-in-None.field-0 c.in_ok-strings-in-None.strings) = subst (λ (m : ModeTable). IsTyped c.args.source.now (parts_of c.in_ok-copy-in-None.field-0 m c.in_ok-fill-in-None.field-0 c.in_ok-strings-in-None.strings)) (sym c.into_table-in-None.ensures) typed in
-    answered c.args.source.now us led none (Ok (parts_of c.in_ok-copy-in-None.field-0 c.into_table-in-None.result c.in_ok-fill-in-None.field-0 c.in_ok-strings-in-None.strings)) here tt
+    let here : IsTyped c.args.source.now (parts_of c.in_ok-copy-in-None.field-0 c.into_table.result c.in_ok-fill-in-None.field-0 c.in_ok-strings-in-None.strings) = subst (λ (m : ModeTable). IsTyped c.args.source.now (parts_of c.in_ok-copy-in-None.field-0 m c.in_ok-fill-in-None.field-0 c.in_ok-strings-in-None.strings)) (sym c.into_table.ensures) typed in
+    answered c.args.source.now us led none (Ok (parts_of c.in_ok-copy-in-None.field-0 c.into_table.result c.in_ok-fill-in-None.field-0 c.in_ok-strings-in-None.strings)) here tt
