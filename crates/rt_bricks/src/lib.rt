@@ -21,6 +21,3 @@ pub use tree::{
     ImportedStacks, Module, Parenthesized, ProcedureBrick, RecordMode, Selector, Sign, StackBrick,
     Start,
 };
-
-#[cfg(test)]
-mod tests;

@@ -7,6 +7,3 @@
 mod names;
 
 pub use names::{Declared, ModuleNames, declared_names, second_fields};
-
-#[cfg(test)]
-mod tests;

@@ -18,10 +18,3 @@ pub use condition::fit_condition;
 pub use expression::{fit, one_value};
 pub use rt_operands::{CheckFault, IndexedRecords, Level, Meaning, Scope, references_are_followed};
 pub use target::{fit_call, fit_target, fit_val_target};
-
-#[cfg(test)]
-mod cases;
-#[cfg(test)]
-mod shown;
-#[cfg(test)]
-mod tests;

@@ -12,6 +12,3 @@ mod totals;
 pub use bricks::{Bricks, Heading, Sort, read_bricks};
 pub use parts::{Given, Part};
 pub use totals::{fields_of, large_item};
-
-#[cfg(test)]
-mod tests;

@@ -12,6 +12,3 @@ mod records;
 pub use fields::{Found, read_fields};
 pub use module::{Records, read_records};
 pub use records::either;
-
-#[cfg(test)]
-mod tests;

@@ -11,6 +11,3 @@ mod strings;
 
 pub use items::{judge_starts, read_starts};
 pub use strings::add_brick_strings;
-
-#[cfg(test)]
-mod tests;

@@ -16,6 +16,3 @@ mod statements;
 
 pub use procedure::judge_procedure;
 pub use rt_names::Names;
-
-#[cfg(test)]
-mod tests;

@@ -6,6 +6,3 @@
 mod strings;
 
 pub use strings::{Text, add_strings, in_expr};
-
-#[cfg(test)]
-mod tests;

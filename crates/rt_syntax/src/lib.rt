@@ -19,8 +19,3 @@ pub use rt_expression::{
 pub use rt_grammar::{At, Ident};
 pub use statements::{body, names};
 pub use tree::{Body, Branch, Control, Local, Locals, Simple, Stmt};
-
-#[cfg(test)]
-mod shown;
-#[cfg(test)]
-mod tests;

@@ -19,6 +19,3 @@ pub use names::find_name;
 pub use site::Site;
 pub use unfit::unfit_record;
 pub use written::{Resolved, resolve};
-
-#[cfg(test)]
-mod tests;
