@@ -19,6 +19,8 @@ mod procedures;
 #[cfg(test)]
 mod records;
 #[cfg(test)]
+mod rows;
+#[cfg(test)]
 mod starts;
 #[cfg(test)]
 mod strings;

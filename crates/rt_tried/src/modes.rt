@@ -1,4 +1,5 @@
 //! Modes as they are written, resolved; and the fault that counts of several.
+use super::rows::sides;
 use indexmap::IndexMap;
 use rt_expression::{Context, LIMITS, WrittenMode, written_mode};
 use rt_grammar::At;
@@ -31,7 +32,7 @@ fn spelled(alloc: Global, mode: &Mode) -> Result<String, Fail> {
     Ok(all)
 }
 
-fn parsed(alloc: Global, text: &[u8]) -> Result<WrittenMode, Fail> {
+pub fn parsed(alloc: Global, text: &[u8]) -> Result<WrittenMode, Fail> {
     if text.len() > 4194304 {
         return Err("too long".into());
     }
@@ -53,7 +54,7 @@ fn with<'n>(level: Level<'n>, name: &'n [u8], meaning: Meaning) -> Result<Level<
 }
 
 /// R and N are MODEs and B is a brick.
-fn outer(alloc: Global) -> Result<Level<'static>, Fail> {
+pub fn outer(alloc: Global) -> Result<Level<'static>, Fail> {
     let level = with(IndexMap::new(alloc), b"R", Meaning::Mode(0))?;
     let level = with(level, b"N", Meaning::Mode(1))?;
     with(level, b"B", Meaning::Data(0))
@@ -90,45 +91,48 @@ fn shown(alloc: Global, text: &[u8], site: Site) -> Result<String, Fail> {
     answer(alloc, &written, site, &levels)
 }
 
-const CASES: [(&[u8], Site, &str); 25] = [
-    (b"INT", Site::Variable, "INT"),
-    (b"REF REF FRAC", Site::Variable, "REF REF FRAC"),
-    (b"R", Site::Item, "R WHERE R()"),
-    (b"R", Site::Variable, "25 at 0"),
-    (b"REF R", Site::Variable, "REF R WHERE R()"),
-    (b"ARRAY(3) BYTE", Site::Item, "ARRAY(3) BYTE"),
-    (b"ARRAY(3) BYTE", Site::Variable, "25 at 0"),
-    (b"ARRAY(3) R", Site::Item, "ARRAY(3) R WHERE R()"),
-    (b"ARRAY(8191) INT", Site::Item, "ARRAY(8191) INT"),
-    (b"ARRAY(8192) INT", Site::Item, "bad length"),
-    (b"ARRAY(0) INT", Site::Item, "bad length"),
-    (b"ARRAY(0) X", Site::Item, "20 at 4"),
-    (b"ARRAY(2) ARRAY(3) INT", Site::Item, "25 at 4"),
-    (b"REF ARRAY INT", Site::Variable, "REF ARRAY INT"),
-    (b"REF ARRAY ARRAY(3) INT", Site::Variable, "25 at 2"),
-    (b"LABEL", Site::Item, "25 at 0"),
-    (b"REF LABEL", Site::Variable, "25 at 1"),
-    (b"X", Site::Item, "20 at 0"),
-    (b"B", Site::Item, "20 at 0"),
-    // inner_name_hides_mode
-    (b"REF N", Site::Variable, "20 at 1"),
-    (
-        b"PROC(INT,REF R) BYTE",
-        Site::Variable,
-        "PROC(INT,REF R) BYTE WHERE R()",
-    ),
-    (b"PROC(ARRAY(3) INT)", Site::Variable, "25 at 2"),
-    (b"PROC(R)", Site::Variable, "25 at 2"),
-    // least_of_several
-    (b"PROC(INT,X,LABEL) REF Y", Site::Variable, "20 at 4"),
-    (b"PROC(INT) REF Y", Site::Variable, "20 at 5"),
-];
+// Where a mode stands: of an item of data, or of a variable.
+fn site(word: &str) -> Result<Site, Fail> {
+    match word {
+        "item" => Ok(Site::Item),
+        "variable" => Ok(Site::Variable),
+        _ => Err("no site".into()),
+    }
+}
+
+const CASES: &str = "variable INT => INT
+variable REF REF FRAC => REF REF FRAC
+item R => R WHERE R()
+variable R => 25 at 0
+variable REF R => REF R WHERE R()
+item ARRAY(3) BYTE => ARRAY(3) BYTE
+variable ARRAY(3) BYTE => 25 at 0
+item ARRAY(3) R => ARRAY(3) R WHERE R()
+item ARRAY(8191) INT => ARRAY(8191) INT
+item ARRAY(8192) INT => bad length
+item ARRAY(0) INT => bad length
+item ARRAY(0) X => 20 at 4
+item ARRAY(2) ARRAY(3) INT => 25 at 4
+variable REF ARRAY INT => REF ARRAY INT
+variable REF ARRAY ARRAY(3) INT => 25 at 2
+item LABEL => 25 at 0
+variable REF LABEL => 25 at 1
+item X => 20 at 0
+item B => 20 at 0
+variable REF N => 20 at 1
+variable PROC(INT,REF R) BYTE => PROC(INT,REF R) BYTE WHERE R()
+variable PROC(ARRAY(3) INT) => 25 at 2
+variable PROC(R) => 25 at 2
+variable PROC(INT,X,LABEL) REF Y => 20 at 4
+variable PROC(INT) REF Y => 20 at 5";
 
 #[test]
 fn written_modes(rt: HostRuntime) -> Result<(), Fail> {
     let alloc = rt.alloc();
-    for (text, site, want) in CASES {
-        let got = shown(alloc, text, site)?;
+    for row in CASES.lines() {
+        let (tried, want) = sides(row)?;
+        let (word, text) = tried.split_once(' ').ok_or("no site")?;
+        let got = shown(alloc, text.as_bytes(), site(word)?)?;
         assert_eq!(rt; got.as_str(), want);
     }
     Ok(())

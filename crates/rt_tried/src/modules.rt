@@ -1,4 +1,5 @@
 //! The declarations of texts, and the lines of their unfit items.
+use super::rows::{sides, text};
 use rt_bricks::{
     DataLine, Declaration, Fields, ImportedData, ImportedProcedures, ImportedStacks, Module,
     Parenthesized, ProcedureBrick, RecordMode, Selector, Sign, Start, parse_module,
@@ -227,119 +228,48 @@ fn shown(alloc: Global, text: &[u8]) -> Result<String, Fail> {
     }
 }
 
-const CASES: [(&[u8], &str); 31] = [
-    // bare_title_module
-    (b"TITLE T;", "T"),
-    (
-        b"TITLE T 1 ( \"x\" PROC ; OPTION (1); OPTION (2, 3) A ( ; STACK S 60; ENT STACK E 70;",
-        "T | stack false S@22 60 @21 | stack true E@27 70 @25",
-    ),
-    // a record of records; two names in a row behind a comma are a mode and a name
-    (
-        b"TITLE T; MODE R (INT A, B, Q C, D, REF R E);",
-        "T | record R@4 Int@6: A@7 B@9; Q@11@11: C@12 D@14; Ref@16: E@18; @3",
-    ),
-    (
-        b"TITLE T; DATA D; ENDDATA; ENT DATA E; INT A := -5, B, C := +7(3), F := 9; R G; ENDDATA;",
-        "T | data false D@4 @3 | data true E@10 Int A@13:=-5@15 B@18:=none C@20:=+7(3@24)@22 F@28:=9@30; R@32 G@33:=none; @8",
-    ),
-    (
-        b"TITLE T; DATA D; REF INT P := X.A(3); REF ARRAY BYTE S := \"hi\"; PROC() Q := F; ENDDATA;",
-        "T | data false D@4 Ref P@8:=X@10.A@12(3@13); RefArray S@20:=hi; Proc 0 Q@27:=F@29; @3",
-    ),
-    (
-        b"TITLE T; DATA D; ARRAY(9) INT V := ((1, 2), (3(2), 4), -5, \"s\", X)(2), W := (1)(9); ENDDATA;",
-        "T | data false D@4 Array 9 V@11:=list 5(2@36) list 2 list 2 -5@29 s X@34 W@40:=list 1(9@45) 1@43; @3",
-    ),
-    (
-        b"TITLE T; PROC P(); ENDPROC; ENT PROC REF ARRAY BYTE F(); RETURN X ENDPROC;",
-        "T | proc false P@4 to none @3 @3 @8 @8 | proc true F@15 to RefArray @10 @11 @19 @21",
-    ),
-    (
-        b"TITLE T; PROC G(INT A, B, R C) PROC(INT) INT; INT L; L := A ENDPROC; STACK S 1;",
-        "T | proc false G@4 Int@6: A@7 B@9; R@11@11: C@12; to Proc 1 @3 @3 @20 @26 | stack false S@29 1 @28",
-    ),
-    (
-        b"TITLE T; EXT PROC(INT) INT A, B; SVC PROC() C;",
-        "T | procs External Proc 1 A@9 B@11 @3 | procs Service Proc 0 C@17 @13",
-    ),
-    (
-        b"TITLE T; EXT DATA D; INT A, B; R C; ENDDATA; SVC DATA E; ENDDATA; EXT STACK S, Q;",
-        "T | data External D@5 Int@7: A@8 B@10; R@12@12: C@13; @3 | data Service E@19 @17 | stacks S@25 Q@27 @23",
-    ),
-    // ---- faults
-    (b"", "syntax error in line 1"),
-    (b"TITLE\nT", "syntax error in line 2"),
-    // no title
-    (b"\nSTACK S 1;", "syntax error in line 2"),
-    (b"TITLE\n;", "syntax error in line 2"),
-    // unclosed_procedure
-    (b"TITLE T;\nENT PROC P();\nRETURN", "syntax error in line 3"),
-    // without ENDDATA
-    (b"TITLE T;\nDATA D;\nINT A;", "syntax error in line 3"),
-    (
-        b"TITLE T;\nDATA D;\nINT A;\nSTACK S 1;",
-        "syntax error in line 4",
-    ),
-    // an item behind the last declaration
-    (b"TITLE T;\nSTACK S 1;\n7", "syntax error in line 3"),
-    (
-        b"TITLE T;\nSTACK S 1;\nOPTION (1);",
-        "syntax error in line 3",
-    ),
-    (b"TITLE T;\nSVC\nSTACK S;", "syntax error in line 3"),
-    (b"TITLE T;\nENT\nEXT STACK S;", "syntax error in line 3"),
-    (
-        b"TITLE T; PROC P();\nX\nENDBLOCK;",
-        "syntax error in line 3",
-    ),
-    (b"TITLE T; OPTION (\n);", "syntax error in line 2"),
-    (b"TITLE T; MODE R (\n);", "syntax error in line 2"),
-    (b"TITLE T; MODE R (INT A\nB);", "syntax error in line 2"),
-    (
-        b"TITLE T; MODE R (INT A, B C\nD);",
-        "syntax error in line 2",
-    ),
-    (
-        b"TITLE T; PROC INT P()\nINT; ENDPROC;",
-        "syntax error in line 2",
-    ),
-    (
-        b"TITLE T; EXT DATA D; INT A\n:= 1; ENDDATA;",
-        "syntax error in line 2",
-    ),
-    (b"TITLE T; STACK S\n;", "syntax error in line 2"),
-    (
-        b"TITLE T; DATA D; INT A := X.A\n:= 1; ENDDATA;",
-        "syntax error in line 2",
-    ),
-    (
-        b"TITLE T; DATA D; INT A := 1(2)\n(3); ENDDATA;",
-        "syntax error in line 2",
-    ),
-];
+const CASES: &str = "TITLE T; => T
+TITLE T 1 ( \"x\" PROC ; OPTION (1); OPTION (2, 3) A ( ; STACK S 60; ENT STACK E 70; => T | stack false S@22 60 @21 | stack true E@27 70 @25
+TITLE T; MODE R (INT A, B, Q C, D, REF R E); => T | record R@4 Int@6: A@7 B@9; Q@11@11: C@12 D@14; Ref@16: E@18; @3
+TITLE T; DATA D; ENDDATA; ENT DATA E; INT A := -5, B, C := +7(3), F := 9; R G; ENDDATA; => T | data false D@4 @3 | data true E@10 Int A@13:=-5@15 B@18:=none C@20:=+7(3@24)@22 F@28:=9@30; R@32 G@33:=none; @8
+TITLE T; DATA D; REF INT P := X.A(3); REF ARRAY BYTE S := \"hi\"; PROC() Q := F; ENDDATA; => T | data false D@4 Ref P@8:=X@10.A@12(3@13); RefArray S@20:=hi; Proc 0 Q@27:=F@29; @3
+TITLE T; DATA D; ARRAY(9) INT V := ((1, 2), (3(2), 4), -5, \"s\", X)(2), W := (1)(9); ENDDATA; => T | data false D@4 Array 9 V@11:=list 5(2@36) list 2 list 2 -5@29 s X@34 W@40:=list 1(9@45) 1@43; @3
+TITLE T; PROC P(); ENDPROC; ENT PROC REF ARRAY BYTE F(); RETURN X ENDPROC; => T | proc false P@4 to none @3 @3 @8 @8 | proc true F@15 to RefArray @10 @11 @19 @21
+TITLE T; PROC G(INT A, B, R C) PROC(INT) INT; INT L; L := A ENDPROC; STACK S 1; => T | proc false G@4 Int@6: A@7 B@9; R@11@11: C@12; to Proc 1 @3 @3 @20 @26 | stack false S@29 1 @28
+TITLE T; EXT PROC(INT) INT A, B; SVC PROC() C; => T | procs External Proc 1 A@9 B@11 @3 | procs Service Proc 0 C@17 @13
+TITLE T; EXT DATA D; INT A, B; R C; ENDDATA; SVC DATA E; ENDDATA; EXT STACK S, Q; => T | data External D@5 Int@7: A@8 B@10; R@12@12: C@13; @3 | data Service E@19 @17 | stacks S@25 Q@27 @23
+ => syntax error in line 1
+TITLE~T => syntax error in line 2
+~STACK S 1; => syntax error in line 2
+TITLE~; => syntax error in line 2
+TITLE T;~ENT PROC P();~RETURN => syntax error in line 3
+TITLE T;~DATA D;~INT A; => syntax error in line 3
+TITLE T;~DATA D;~INT A;~STACK S 1; => syntax error in line 4
+TITLE T;~STACK S 1;~7 => syntax error in line 3
+TITLE T;~STACK S 1;~OPTION (1); => syntax error in line 3
+TITLE T;~SVC~STACK S; => syntax error in line 3
+TITLE T;~ENT~EXT STACK S; => syntax error in line 3
+TITLE T; PROC P();~X~ENDBLOCK; => syntax error in line 3
+TITLE T; OPTION (~); => syntax error in line 2
+TITLE T; MODE R (~); => syntax error in line 2
+TITLE T; MODE R (INT A~B); => syntax error in line 2
+TITLE T; MODE R (INT A, B C~D); => syntax error in line 2
+TITLE T; PROC INT P()~INT; ENDPROC; => syntax error in line 2
+TITLE T; EXT DATA D; INT A~:= 1; ENDDATA; => syntax error in line 2
+TITLE T; STACK S~; => syntax error in line 2
+TITLE T; DATA D; INT A := X.A~:= 1; ENDDATA; => syntax error in line 2
+TITLE T; DATA D; INT A := 1(2)~(3); ENDDATA; => syntax error in line 2";
 
 #[test]
 fn declarations(rt: HostRuntime) -> Result<(), Fail> {
     let alloc = rt.alloc();
-    for (text, want) in CASES {
-        let got = shown(alloc, text)?;
+    for row in CASES.lines() {
+        let (written, want) = sides(row)?;
+        let text = text(alloc, written)?;
+        let got = shown(alloc, text.as_slice())?;
         assert_eq!(rt; got.as_str(), want);
     }
     Ok(())
-}
-
-// Each piece so many times.
-fn built(alloc: Global, pieces: &[(&[u8], usize)]) -> Result<Vec<u8>, Fail> {
-    let mut all = Vec::new(alloc);
-    for (piece, times) in pieces {
-        for _turn in 0..*times {
-            for b in *piece {
-                all.push(*b)?;
-            }
-        }
-    }
-    Ok(all)
 }
 
 // Where `parse_body` ends a procedure's body, too.
@@ -380,148 +310,36 @@ fn counted(alloc: Global, text: &[u8]) -> Result<String, Fail> {
     }
 }
 
+// Parameters, the procedure's own PROC, what opens in records and starts, and a long module.
+const LIMITS: &str = "TITLE T; PROC P(INT A{~, A^31}); ENDPROC; => 1 1
+TITLE T; PROC P(INT A{~, A^32}); ENDPROC; => syntax error in line 33
+TITLE T; MODE R (INT A{~, R A^400}); => 1 0
+TITLE T; PROC P({~ARRAY(1)^99} INT A); ENDPROC; => 1 1
+TITLE T; PROC P({~ARRAY(1)^100} INT A); ENDPROC; => syntax error in line 101
+TITLE T; PROC P(){~REF ARRAY^100} INT; ENDPROC; => syntax error in line 101
+TITLE T; EXT PROC(){~REF ARRAY^99} INT P; => 1 0
+TITLE T; MODE R ({~ARRAY(1)^100} INT A); => 1 0
+TITLE T; MODE R ({~PROC(^99}{)^99} A); => 1 0
+TITLE T; MODE R ({~PROC(^100}{)^100} A); => syntax error in line 101
+TITLE T; MODE R ({~REF^9} INT A); => syntax error in line 10
+TITLE T; DATA D; INT A := {~(^100}1{)^100}; ENDDATA; => 1 0
+TITLE T; DATA D; INT A := {~(^101}1{)^101}; ENDDATA; => syntax error in line 102
+TITLE T; DATA D; INT A := {~(^100}1~(2){)^100}; ENDDATA; => syntax error in line 102
+TITLE T;~{PROC P(INT A) INT; INT B; WHILE B < 9 DO B := B + A REP; RETURN B ENDPROC;~^1000} => 1000 1000";
+
 #[test]
 fn limits(rt: HostRuntime) -> Result<(), Fail> {
     let alloc = rt.alloc();
-    let cases: [(&[(&[u8], usize)], &str); 15] = [
-        // parameters, the procedure's own PROC, and what opens in records and starts
-        (
-            &[
-                (b"TITLE T; PROC P(INT A", 1),
-                (b"\n, A", 31),
-                (b"); ENDPROC;", 1),
-            ],
-            "1 1",
-        ),
-        (
-            &[
-                (b"TITLE T; PROC P(INT A", 1),
-                (b"\n, A", 32),
-                (b"); ENDPROC;", 1),
-            ],
-            "syntax error in line 33",
-        ),
-        (
-            &[
-                (b"TITLE T; MODE R (INT A", 1),
-                (b"\n, R A", 400),
-                (b");", 1),
-            ],
-            "1 0",
-        ),
-        (
-            &[
-                (b"TITLE T; PROC P(", 1),
-                (b"\nARRAY(1)", 99),
-                (b" INT A); ENDPROC;", 1),
-            ],
-            "1 1",
-        ),
-        (
-            &[
-                (b"TITLE T; PROC P(", 1),
-                (b"\nARRAY(1)", 100),
-                (b" INT A); ENDPROC;", 1),
-            ],
-            "syntax error in line 101",
-        ),
-        (
-            &[
-                (b"TITLE T; PROC P()", 1),
-                (b"\nREF ARRAY", 100),
-                (b" INT; ENDPROC;", 1),
-            ],
-            "syntax error in line 101",
-        ),
-        (
-            &[
-                (b"TITLE T; EXT PROC()", 1),
-                (b"\nREF ARRAY", 99),
-                (b" INT P;", 1),
-            ],
-            "1 0",
-        ),
-        (
-            &[
-                (b"TITLE T; MODE R (", 1),
-                (b"\nARRAY(1)", 100),
-                (b" INT A);", 1),
-            ],
-            "1 0",
-        ),
-        (
-            &[
-                (b"TITLE T; MODE R (", 1),
-                (b"\nPROC(", 99),
-                (b")", 99),
-                (b" A);", 1),
-            ],
-            "1 0",
-        ),
-        (
-            &[
-                (b"TITLE T; MODE R (", 1),
-                (b"\nPROC(", 100),
-                (b")", 100),
-                (b" A);", 1),
-            ],
-            "syntax error in line 101",
-        ),
-        (
-            &[(b"TITLE T; MODE R (", 1), (b"\nREF", 9), (b" INT A);", 1)],
-            "syntax error in line 10",
-        ),
-        (
-            &[
-                (b"TITLE T; DATA D; INT A := ", 1),
-                (b"\n(", 100),
-                (b"1", 1),
-                (b")", 100),
-                (b"; ENDDATA;", 1),
-            ],
-            "1 0",
-        ),
-        (
-            &[
-                (b"TITLE T; DATA D; INT A := ", 1),
-                (b"\n(", 101),
-                (b"1", 1),
-                (b")", 101),
-                (b"; ENDDATA;", 1),
-            ],
-            "syntax error in line 102",
-        ),
-        (
-            &[
-                (b"TITLE T; DATA D; INT A := ", 1),
-                (b"\n(", 100),
-                (b"1\n(2)", 1),
-                (b")", 100),
-                (b"; ENDDATA;", 1),
-            ],
-            "syntax error in line 102",
-        ),
-        // a long module
-        (
-            &[
-                (b"TITLE T;\n", 1),
-                (
-                    b"PROC P(INT A) INT; INT B; WHILE B < 9 DO B := B + A REP; RETURN B ENDPROC;\n",
-                    1000,
-                ),
-            ],
-            "1000 1000",
-        ),
-    ];
-    for (pieces, want) in cases {
-        let text = built(alloc, pieces)?;
+    for row in LIMITS.lines() {
+        let (written, want) = sides(row)?;
+        let text = text(alloc, written)?;
         let got = counted(alloc, text.as_slice())?;
         assert_eq!(rt; got.as_str(), want);
     }
     Ok(())
 }
 
-const LIBRARY: &[u8] = b"TITLE LIBRARY;
+const LIBRARY: &str = "TITLE LIBRARY;
 SVC DATA RRSIO; PROC() BYTE IN; PROC(BYTE) OUT; ENDDATA;
 ENT PROC TWRT(REF ARRAY BYTE T);
 FOR I := 1 TO LENGTH T DO OUT(T(I)) REP ENDPROC;
@@ -546,10 +364,10 @@ WHILE B >= '0' AND B <= '9' DO N := 10 * N + (B - '0'); B := IN() REP;
 IF S = 1 THEN RETURN -N END; RETURN N ENDPROC;
 ";
 
-const BUF: &[u8] = b"TITLE BUF; ENT DATA LINEBUF; ARRAY(80) BYTE BUF; INT FILL; ENDDATA;
+const BUF: &str = "TITLE BUF; ENT DATA LINEBUF; ARRAY(80) BYTE BUF; INT FILL; ENDDATA;
 ";
 
-const PLANT: &[u8] = b"TITLE PLANT; LET NL=10; LET FULL=1; LET KEY=1;
+const PLANT: &str = "TITLE PLANT; LET NL=10; LET FULL=1; LET KEY=1;
 SVC PROC(INT) DELAY, WAIT, SIGNAL, SECURE, RELEASE;
 SVC PROC() INT CLOCK;
 SVC DATA RRSIO; PROC() BYTE IN; PROC(BYTE) OUT; ENDDATA;
@@ -570,11 +388,11 @@ ELSE SECURE(KEY); FILL := FILL + 1; BUF(FILL) := B; RELEASE(KEY) END REP ENDPROC
 #[test]
 fn library_and_plant(rt: HostRuntime) -> Result<(), Fail> {
     let alloc = rt.alloc();
-    let library = counted(alloc, LIBRARY)?;
+    let library = counted(alloc, LIBRARY.as_bytes())?;
     assert_eq!(rt; library.as_str(), "8 7");
-    let buffer = counted(alloc, BUF)?;
+    let buffer = counted(alloc, BUF.as_bytes())?;
     assert_eq!(rt; buffer.as_str(), "1 0");
-    let plant = counted(alloc, PLANT)?;
+    let plant = counted(alloc, PLANT.as_bytes())?;
     assert_eq!(rt; plant.as_str(), "12 3");
     Ok(())
 }

@@ -1,4 +1,5 @@
 //! Procedures: how many locals, labels and items they have, or their fault.
+use super::rows::sides;
 use indexmap::{IndexMap, IndexSet};
 use rt_bricks::{Declaration, ProcedureBrick, parse_module};
 use rt_items::items;
@@ -11,7 +12,7 @@ use std::alloc::Global;
 use std::test::Fail;
 
 /// What is seen of a procedure: how many locals, labels and items it has, or the number and the item of its fault.
-#[derive(Clone, Copy, Debug, PartialEq, Eq)]
+#[derive(Clone, Copy, Debug)]
 enum Shown {
     Made(usize, u32, u16),
     Fault(u8, u16),
@@ -52,57 +53,30 @@ fn numbers_of(judged: Result<ProcBody, CheckFault>) -> Shown {
     }
 }
 
-const CASES: [(&[u8], Shown); 15] = [
-    (b"TITLE T; PROC F(); ENDPROC;", Shown::Made(0, 0, 6)),
-    (
-        b"TITLE T; PROC F(INT A) INT; INT B := A, C; L: FOR I := 1 TO 3 DO TO 2 DO M: C := B REP REP; GOTO L ENDPROC;",
-        Shown::Made(9, 2, 38),
-    ),
-    (b"TITLE T; PROC F(INT A, A); ENDPROC;", Shown::Fault(26, 9)),
-    (
-        b"TITLE T; PROC F(); INT A := A; ENDPROC;",
-        Shown::Fault(20, 11),
-    ),
-    (
-        b"TITLE T; PROC F(); REF INT A; ENDPROC;",
-        Shown::Fault(27, 10),
-    ),
-    (b"TITLE T; PROC F() INT; ENDPROC;", Shown::Fault(29, 9)),
-    (b"TITLE T; PROC F(); GOTO L ENDPROC;", Shown::Fault(28, 9)),
-    (b"TITLE T; PROC F(); RETURN 1 ENDPROC;", Shown::Fault(21, 9)),
-    (
-        b"TITLE T; PROC F() INT; RETURN ENDPROC;",
-        Shown::Fault(29, 9),
-    ),
-    (
-        b"TITLE T; PROC F() INT; RETURN 1; L: ENDPROC;",
-        Shown::Fault(29, 14),
-    ),
-    (b"TITLE T; PROC F(); L: L: ENDPROC;", Shown::Fault(26, 10)),
-    (
-        b"TITLE T; PROC F(); FOR I := 1 TO 2 DO I := 3 REP ENDPROC;",
-        Shown::Fault(22, 15),
-    ),
-    (
-        b"TITLE T; PROC F(); BLOCK L: ENDBLOCK; GOTO L ENDPROC;",
-        Shown::Fault(28, 14),
-    ),
-    (
-        b"TITLE T; PROC F(INT L); L: BLOCK INT L; GOTO L ENDBLOCK ENDPROC;",
-        Shown::Fault(28, 17),
-    ),
-    (
-        b"TITLE T; PROC F(); INT A := B; GOTO C ENDPROC;",
-        Shown::Fault(20, 11),
-    ),
-];
+const CASES: &str = "TITLE T; PROC F(); ENDPROC; => Made(0, 0, 6)
+TITLE T; PROC F(INT A) INT; INT B := A, C; L: FOR I := 1 TO 3 DO TO 2 DO M: C := B REP REP; GOTO L ENDPROC; => Made(9, 2, 38)
+TITLE T; PROC F(INT A, A); ENDPROC; => Fault(26, 9)
+TITLE T; PROC F(); INT A := A; ENDPROC; => Fault(20, 11)
+TITLE T; PROC F(); REF INT A; ENDPROC; => Fault(27, 10)
+TITLE T; PROC F() INT; ENDPROC; => Fault(29, 9)
+TITLE T; PROC F(); GOTO L ENDPROC; => Fault(28, 9)
+TITLE T; PROC F(); RETURN 1 ENDPROC; => Fault(21, 9)
+TITLE T; PROC F() INT; RETURN ENDPROC; => Fault(29, 9)
+TITLE T; PROC F() INT; RETURN 1; L: ENDPROC; => Fault(29, 14)
+TITLE T; PROC F(); L: L: ENDPROC; => Fault(26, 10)
+TITLE T; PROC F(); FOR I := 1 TO 2 DO I := 3 REP ENDPROC; => Fault(22, 15)
+TITLE T; PROC F(); BLOCK L: ENDBLOCK; GOTO L ENDPROC; => Fault(28, 14)
+TITLE T; PROC F(INT L); L: BLOCK INT L; GOTO L ENDBLOCK ENDPROC; => Fault(28, 17)
+TITLE T; PROC F(); INT A := B; GOTO C ENDPROC; => Fault(20, 11)";
 
 #[test]
 fn procedures(rt: HostRuntime) -> Result<(), Fail> {
     let alloc = rt.alloc();
-    for (text, want) in CASES {
-        let got = outcome(alloc, text)?;
-        assert_eq!(rt; got, want);
+    for row in CASES.lines() {
+        let (text, want) = sides(row)?;
+        let shown = outcome(alloc, text.as_bytes())?;
+        let got = format!(in alloc; "{shown:?}")?;
+        assert_eq!(rt; got.as_str(), want);
     }
     Ok(())
 }
