@@ -1,5 +1,5 @@
 //! Modes as they are written, resolved; and the fault that counts of several.
-use super::rows::sides;
+use super::read::{sides, told};
 use indexmap::IndexMap;
 use rt_expression::{Context, LIMITS, WrittenMode, written_mode};
 use rt_grammar::At;
@@ -65,12 +65,6 @@ fn inner(alloc: Global) -> Result<Level<'static>, Fail> {
     with(IndexMap::new(alloc), b"N", Meaning::Local(0, Mode::Int))
 }
 
-fn of_fault(alloc: Global, fault: CheckFault) -> Result<String, Fail> {
-    let number = fault.number();
-    let item = fault.item();
-    Ok(format!(in alloc; "{number} at {item}")?)
-}
-
 fn answer(
     alloc: Global,
     written: &WrittenMode,
@@ -80,7 +74,7 @@ fn answer(
     match resolve(alloc, written, site, levels) {
         Ok(Resolved::Mode(mode)) => spelled(alloc, &mode),
         Ok(Resolved::BadLength) => Ok(format!(in alloc; "bad length")?),
-        Err(fault) => of_fault(alloc, fault),
+        Err(fault) => told(alloc, fault),
     }
 }
 

@@ -1,47 +1,34 @@
-//! Starts of data.
+//! Starts of data, from the only line of a brick.
+use super::read::{module, sides, told};
 use indexmap::IndexSet;
-use rt_bricks::{DataItem, DataLine, Sign, Start};
-use rt_expression::{BasicMode, WrittenMode};
-use rt_grammar::{At, Ident};
-use rt_headings::{Given, Part};
-use rt_modes::{Mode, ModeTable};
+use rt_bricks::{DataLine, Declaration};
+use rt_headings::{Part, Sort, read_bricks};
+use rt_modes::ModeTable;
 use rt_nodes::DataStart;
-use rt_operands::{CheckFault, IndexedRecords, Scope};
+use rt_operands::{IndexedRecords, Scope};
 use rt_starts::read_starts;
-use rt_words::{List, Name};
+use rt_words::List;
 use std::alloc::Global;
 use std::test::Fail;
 
-const A: At = At { item: 5, line: 2 };
-
-/// `A := -number`, or `A` where no number is written.
-fn lines(alloc: Global, number: Option<u16>) -> Result<List<DataLine>, Fail> {
-    let start = number.map(|number| Start::Number(Some(Sign::Minus), number, None, A));
-    let name = Ident {
-        name: Name::new(alloc, b"A")?.ok_or("no name")?,
-        at: A,
+/// The number with which the line's only item starts, or the fault.
+fn started(alloc: Global, line: &str) -> Result<String, Fail> {
+    let text = format!(in alloc; "TITLE T; DATA D; {line}; ENDDATA;")?;
+    let module = module(alloc, text.as_str())?;
+    let [Declaration::Data(brick)] = module.declarations.as_slice() else {
+        return Err("no data".into());
     };
-    let mut items = List::new(alloc, 1)?;
-    items.push(DataItem { name, start })?;
-    let mut all = List::new(alloc, 1)?;
-    let mode = WrittenMode::Basic(BasicMode::Int, A);
-    all.push(DataLine { mode, items, at: A })?;
-    Ok(all)
+    let found = read_bricks(alloc, module.declarations.as_slice(), &[])?;
+    match found.bricks.as_slice() {
+        [heading] => match &heading.sort {
+            Sort::Items(parts) => answer(alloc, brick.lines.as_slice(), parts.as_slice()),
+            _ => Err("no items".into()),
+        },
+        _ => Err("no brick".into()),
+    }
 }
 
-/// What `A` is declared with.
-fn parts(alloc: Global, mode: Mode) -> Result<List<Part>, Fail> {
-    let mut all = List::new(alloc, 1)?;
-    all.push(Part {
-        name: Name::new(alloc, b"A")?.ok_or("no name")?,
-        at: A,
-        has: Given::Mode(mode),
-    })?;
-    Ok(all)
-}
-
-/// The number with which `A` starts, or the fault and its item.
-fn started(alloc: Global, number: Option<u16>, mode: Mode) -> Result<(u16, u16), Fail> {
+fn answer(alloc: Global, lines: &[DataLine], parts: &[Part]) -> Result<String, Fail> {
     let records = List::new(alloc, 0)?;
     let modes = IndexedRecords::new(alloc, ModeTable { records })?;
     let strings = IndexSet::new(alloc);
@@ -50,34 +37,31 @@ fn started(alloc: Global, number: Option<u16>, mode: Mode) -> Result<(u16, u16),
         strings: &strings,
         levels: &[],
     };
-    let lines = lines(alloc, number)?;
-    let parts = parts(alloc, mode)?;
-    match read_starts(alloc, &scope, lines.as_slice(), parts.as_slice(), &[]) {
+    match read_starts(alloc, &scope, lines, parts, &[]) {
         Ok(found) => match found.as_slice() {
-            [DataStart::Number(word)] => Ok((*word, 0)),
+            [DataStart::Number(word)] => Ok(format!(in alloc; "{word}")?),
             _ => Err("no number".into()),
         },
-        Err(fault) => Ok((u16::from(fault.number()), fault.item())),
+        Err(fault) => told(alloc, fault),
     }
 }
 
-#[test]
-fn number_with_minus(rt: HostRuntime) -> Result<(), Fail> {
-    let found = started(rt.alloc(), Some(5), Mode::Int)?;
-    assert_eq!(rt; found, (65531, 0));
-    Ok(())
-}
+const CASES: &str = "INT A := 5 => 5
+INT A := +5 => 5
+INT A := -5 => 65531
+INT A => 0
+FRAC A => 0
+BYTE A := 255 => 255
+BYTE A := 256 => 27 at 7
+BYTE A := -5 => 27 at 7";
 
 #[test]
-fn nothing_written(rt: HostRuntime) -> Result<(), Fail> {
-    let found = started(rt.alloc(), None, Mode::Frac)?;
-    assert_eq!(rt; found, (0, 0));
-    Ok(())
-}
-
-#[test]
-fn byte_with_minus(rt: HostRuntime) -> Result<(), Fail> {
-    let found = started(rt.alloc(), Some(5), Mode::Byte)?;
-    assert_eq!(rt; found, (27, 5));
+fn starts_of_one_item(rt: HostRuntime) -> Result<(), Fail> {
+    let alloc = rt.alloc();
+    for row in CASES.lines() {
+        let (line, want) = sides(row)?;
+        let got = started(alloc, line)?;
+        assert_eq!(rt; got.as_str(), want);
+    }
     Ok(())
 }

@@ -1,6 +1,6 @@
 //! What expressions, targets, calls and conditions are where a mode is wanted, as texts.
 use super::modes::{outer, parsed};
-use super::rows::{sides, text};
+use super::read::{sides, told};
 use super::value_cases::{PLACES, REFERENCES, RESULTS, WITH_OPERANDS};
 use super::value_shown::{shown_place, shown_test, shown_value};
 use indexmap::{IndexMap, IndexSet};
@@ -146,12 +146,6 @@ fn strings(alloc: Global, all: &[Item]) -> Result<IndexSet<u16>, Fail> {
     Ok(found)
 }
 
-fn fault(alloc: Global, fault: CheckFault) -> Result<String, Fail> {
-    let number = fault.number();
-    let item = fault.item();
-    Ok(format!(in alloc; "{number} at {item}")?)
-}
-
 fn context(all: &[Item]) -> Context {
     Context {
         total: all.len(),
@@ -169,7 +163,7 @@ fn fitted_value(
     match expression(alloc, context(all), all) {
         Ok((expr, _)) => match fit(alloc, &expr, &wanted, scope) {
             Ok(value) => shown_value(alloc, &value),
-            Err(found) => fault(alloc, found),
+            Err(fault) => told(alloc, fault),
         },
         Err(_) => Err("no expression".into()),
     }
@@ -179,7 +173,7 @@ fn fitted_condition(alloc: Global, all: &[Item], scope: &Scope<'_>) -> Result<St
     match condition(alloc, context(all), all) {
         Ok((condition, _)) => match fit_condition(alloc, &condition, scope) {
             Ok(test) => shown_test(alloc, &test),
-            Err(found) => fault(alloc, found),
+            Err(fault) => told(alloc, fault),
         },
         Err(_) => Err("no condition".into()),
     }
@@ -196,7 +190,7 @@ fn fitted_target(alloc: Global, all: &[Item], scope: &Scope<'_>) -> Result<Strin
     let chain = chain_of(alloc, all)?;
     match fit_target(alloc, &chain, scope) {
         Ok((place, _)) => shown_place(alloc, &place),
-        Err(found) => fault(alloc, found),
+        Err(fault) => told(alloc, fault),
     }
 }
 
@@ -205,7 +199,7 @@ fn fitted_val_target(alloc: Global, all: &[Item], scope: &Scope<'_>) -> Result<S
     let at = At { item: 99, line: 1 };
     match fit_val_target(alloc, at, &chain, scope) {
         Ok((place, _)) => shown_place(alloc, &place),
-        Err(found) => fault(alloc, found),
+        Err(fault) => told(alloc, fault),
     }
 }
 
@@ -213,7 +207,7 @@ fn fitted_call(alloc: Global, all: &[Item], scope: &Scope<'_>) -> Result<String,
     let chain = chain_of(alloc, all)?;
     match fit_call(alloc, &chain, scope) {
         Ok(call) => shown_value(alloc, &call),
-        Err(found) => fault(alloc, found),
+        Err(fault) => told(alloc, fault),
     }
 }
 
@@ -449,19 +443,27 @@ fn operands_of_each_mode(rt: HostRuntime) -> Result<(), Fail> {
     Ok(())
 }
 
-/// Expressions with as many operators and parentheses as may stand, and how long their trees are as texts.
-const LARGE: &str = "I{+I^249} => 4243
-{(^100}I{)^100} => 10
-{-^499}I => 3503";
+/// How long the tree of an expression is as a text: a piece so many times, a middle, and another piece as often.
+fn length_of_large(
+    alloc: Global,
+    before: &str,
+    middle: &str,
+    behind: &str,
+    times: usize,
+) -> Result<usize, Fail> {
+    let before = before.repeat(alloc, times)?;
+    let behind = behind.repeat(alloc, times)?;
+    let text = format!(in alloc; "{before}{middle}{behind}")?;
+    let got = outcome(alloc, "INT", text.as_bytes())?;
+    Ok(got.len())
+}
 
+/// Expressions with as many operators and parentheses as may stand.
 #[test]
 fn large_expressions(rt: HostRuntime) -> Result<(), Fail> {
     let alloc = rt.alloc();
-    for row in LARGE.lines() {
-        let (written, length) = sides(row)?;
-        let text = text(alloc, written)?;
-        let got = outcome(alloc, "INT", text.as_slice())?;
-        assert_eq!(rt; got.len(), length.parse::<usize>().ok().ok_or("no number")?);
-    }
+    assert_eq!(rt; length_of_large(alloc, "", "I", "+I", 249)?, 4243);
+    assert_eq!(rt; length_of_large(alloc, "(", "I", ")", 100)?, 10);
+    assert_eq!(rt; length_of_large(alloc, "-", "I", "", 499)?, 3503);
     Ok(())
 }
