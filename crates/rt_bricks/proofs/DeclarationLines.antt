@@ -17,14 +17,14 @@ use Rattle.rt_grammar.proofs.Good.{Good, weaken, seq, good_equal, good_nothing, 
 use Rattle.rt_grammar.proofs.OneItem.{good_mark, good_word, good_number, good_ident}
 use Rattle.rt_grammar.proofs.Choices.{good_choose, good_optional, good_turns, good_up_to, good_after_mark}
 use Rattle.rt_grammar.proofs.Wider.{Same, good_same, factored, good_starting}
-use Rattle.rt_expression.specs.declared.limits.Context.{Context}
-use Rattle.rt_expression.specs.declared.tree.WrittenMode.{WrittenMode}
-use Rattle.rt_expression.specs.declared.tree.WrittenMode.TheVariants as written
-use Rattle.rt_expression.specs.Tables.{begins_result, begins_mode, begins_mode_by_word}
-use Rattle.rt_expression.specs.Modes as modes
-use Rattle.rt_expression.specs.ModeParser as mode_reads
-use Rattle.rt_expression.proofs.ExpressionLines.{NoLink}
-use Rattle.rt_expression.proofs.ModeLines as mode_lines
+use Rattle.rt_syntax_exprs.specs.declared.limits.Context.{Context}
+use Rattle.rt_syntax_exprs.specs.declared.tree.WrittenMode.{WrittenMode}
+use Rattle.rt_syntax_exprs.specs.declared.tree.WrittenMode.TheVariants as written
+use Rattle.rt_syntax_exprs.specs.Tables.{begins_result, begins_mode, begins_mode_by_word}
+use Rattle.rt_syntax_exprs.specs.Modes as modes
+use Rattle.rt_syntax_exprs.specs.ModeParser as mode_reads
+use Rattle.rt_syntax_exprs.proofs.ExpressionLines.{NoLink}
+use Rattle.rt_syntax_exprs.proofs.ModeLines as mode_lines
 use Rattle.rt_syntax.proofs.StatementLines as statements
 use Rattle.rt_bricks.specs.declared.tree.Import.{Import}
 use Rattle.rt_bricks.specs.declared.tree.Import.TheVariants as import

@@ -6,8 +6,8 @@ use Rattle.rt_grammar.specs.declared.at.At.{At}
 use Rattle.rt_grammar.specs.declared.at.Ident.{Ident}
 use Rattle.rt_grammar.specs.Parts.{Part, Turns, stop, turn, BeginsTurns, begun, turned, at_of, push}
 use Rattle.rt_grammar.specs.Parts as part
-use Rattle.rt_expression.specs.declared.limits.Context.{Context}
-use Rattle.rt_expression.specs.declared.tree.WrittenMode.{WrittenMode}
+use Rattle.rt_syntax_exprs.specs.declared.limits.Context.{Context}
+use Rattle.rt_syntax_exprs.specs.declared.tree.WrittenMode.{WrittenMode}
 use Rattle.rt_bricks.specs.declared.tree.Fields.{Fields}
 use Rattle.rt_bricks.specs.declared.fields.Field.{Field}
 use Rattle.rt_bricks.specs.declared.fields.Collected.{Collected}

@@ -12,7 +12,7 @@ use Rattle.rt_grammar.proofs.Numbers.{next_no, Goes, In, in_range, range_goes, t
 use Rattle.rt_grammar.proofs.Good.{Good, weaken, seq, good_nothing, good_here, good_within}
 use Rattle.rt_grammar.proofs.OneItem.{good_mark, good_word, good_number, good_ident, good_listed_in}
 use Rattle.rt_grammar.proofs.Choices.{good_turns}
-use Rattle.rt_expression.specs.declared.limits.Context.{Context}
+use Rattle.rt_syntax_exprs.specs.declared.limits.Context.{Context}
 use Rattle.rt_bricks.specs.Tables.{but_semicolon}
 use Rattle.rt_bricks.specs.Declarations.{declaration}
 use Rattle.rt_bricks.specs.Modules as line

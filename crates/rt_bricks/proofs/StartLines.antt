@@ -13,8 +13,8 @@ use Rattle.rt_grammar.proofs.Numbers.{next_no, Goes, In, in_range, range_goes, t
 use Rattle.rt_grammar.proofs.Good.{Good, weaken, seq, good_equal, good_nothing, good_never, good_here, good_within}
 use Rattle.rt_grammar.proofs.OneItem.{good_mark, good_number, good_text, good_ident, good_listed_in}
 use Rattle.rt_grammar.proofs.Choices.{good_turns, good_choose, good_optional, good_after_mark}
-use Rattle.rt_expression.specs.declared.limits.Context.{Context}
-use Rattle.rt_expression.proofs.ExpressionLines.{NoLink, link_goes}
+use Rattle.rt_syntax_exprs.specs.declared.limits.Context.{Context}
+use Rattle.rt_syntax_exprs.proofs.ExpressionLines.{NoLink, link_goes}
 use Rattle.rt_bricks.specs.declared.tree.Start.{Start}
 use Rattle.rt_bricks.specs.Tables.{sign_of}
 use Rattle.rt_bricks.specs.Starts as line

@@ -9,12 +9,12 @@ use Rattle.rt_grammar.specs.declared.next.Next.{Next}
 use Rattle.rt_grammar.specs.declared.next.Next.TheVariants as next
 use Rattle.rt_grammar.specs.Parts.{next_of, push}
 use Rattle.rt_grammar.specs.Parsing.{Parser, ◌>>=◌, pure, here, by_next, choose, optional, starting, mark, word, number, ident, is_mark, is_word, is_name, mark_comes, within, turns, turns_from}
-use Rattle.rt_expression.specs.declared.limits.Context.{Context}
-use Rattle.rt_expression.specs.declared.tree.WrittenMode.{WrittenMode}
-use Rattle.rt_expression.specs.declared.tree.WrittenMode.TheVariants as written
-use Rattle.rt_expression.specs.Tables.{begins_result, begins_mode, begins_mode_by_word}
-use Rattle.rt_expression.specs.ModeParser.{written_mode, procedure}
-use Rattle.rt_expression.specs.ModeParser.{inside as modes_inside}
+use Rattle.rt_syntax_exprs.specs.declared.limits.Context.{Context}
+use Rattle.rt_syntax_exprs.specs.declared.tree.WrittenMode.{WrittenMode}
+use Rattle.rt_syntax_exprs.specs.declared.tree.WrittenMode.TheVariants as written
+use Rattle.rt_syntax_exprs.specs.Tables.{begins_result, begins_mode, begins_mode_by_word}
+use Rattle.rt_syntax_exprs.specs.ModeParser.{written_mode, procedure}
+use Rattle.rt_syntax_exprs.specs.ModeParser.{inside as modes_inside}
 use Rattle.rt_syntax.specs.declared.tree.Body.{Body}
 use Rattle.rt_syntax.specs.StatementParser.{names, body}
 use Rattle.rt_bricks.specs.declared.tree.Fields.{Fields}

@@ -6,11 +6,11 @@ use Rattle.rt_pieces.specs.declared.item.Word.TheVariants as w
 use Rattle.rt_grammar.specs.declared.at.At.{At}
 use Rattle.rt_grammar.specs.declared.at.Ident.{Ident}
 use Rattle.rt_grammar.specs.Parts.{Part, nothing, either, ◌>>=◌, optional, turns, up_to, starting, within, here, mark, word, number, ident, push}
-use Rattle.rt_expression.specs.declared.limits.Context.{Context}
-use Rattle.rt_expression.specs.declared.tree.WrittenMode.{WrittenMode}
-use Rattle.rt_expression.specs.Tables.{begins_result}
-use Rattle.rt_expression.specs.Modes.{written_mode, procedure}
-use Rattle.rt_expression.specs.Modes.{inside as modes_inside}
+use Rattle.rt_syntax_exprs.specs.declared.limits.Context.{Context}
+use Rattle.rt_syntax_exprs.specs.declared.tree.WrittenMode.{WrittenMode}
+use Rattle.rt_syntax_exprs.specs.Tables.{begins_result}
+use Rattle.rt_syntax_exprs.specs.Modes.{written_mode, procedure}
+use Rattle.rt_syntax_exprs.specs.Modes.{inside as modes_inside}
 use Rattle.rt_syntax.specs.declared.tree.Body.{Body}
 use Rattle.rt_syntax.specs.Statements.{names, body}
 use Rattle.rt_bricks.specs.declared.tree.Fields.{Fields}

@@ -4,9 +4,9 @@ use Rattle.rt_pieces.specs.declared.item.Item.{Item}
 use Rattle.rt_pieces.specs.declared.item.Mark.TheVariants as m
 use Rattle.rt_grammar.specs.declared.at.Ident.{Ident}
 use Rattle.rt_grammar.specs.Parts.{Part, nothing, ◌>>=◌, turns, here, mark, ident, push}
-use Rattle.rt_expression.specs.declared.limits.Context.{Context}
-use Rattle.rt_expression.specs.declared.tree.WrittenMode.{WrittenMode}
-use Rattle.rt_expression.specs.Modes.{written_mode}
+use Rattle.rt_syntax_exprs.specs.declared.limits.Context.{Context}
+use Rattle.rt_syntax_exprs.specs.declared.tree.WrittenMode.{WrittenMode}
+use Rattle.rt_syntax_exprs.specs.Modes.{written_mode}
 use Rattle.rt_bricks.specs.declared.tree.Fields.{Fields}
 use Rattle.rt_bricks.specs.Declarations.{fields}
 

@@ -7,3 +7,4 @@ pub mod StartParser
 pub mod DeclarationParser
 pub mod ModuleParser
 pub mod Derives
+pub mod Counted

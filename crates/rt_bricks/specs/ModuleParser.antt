@@ -5,7 +5,7 @@ use Rattle.rt_pieces.specs.declared.item.Mark.TheVariants as m
 use Rattle.rt_pieces.specs.declared.item.Word.TheVariants as w
 use Rattle.rt_grammar.specs.Parts.{next_of, push}
 use Rattle.rt_grammar.specs.Parsing.{Parser, ◌>>=◌, pure, here, mark, word, number, ident, listed_in, in_table, mark_comes, word_comes, within, turns, turns_from}
-use Rattle.rt_expression.specs.declared.limits.Context.{Context}
+use Rattle.rt_syntax_exprs.specs.declared.limits.Context.{Context}
 use Rattle.rt_bricks.specs.declared.tree.Declaration.{Declaration}
 use Rattle.rt_bricks.specs.declared.tree.Module.{Module}
 use Rattle.rt_bricks.specs.Tables.{but_semicolon, begins_declaration}

@@ -3,7 +3,7 @@ use Rattle.std.specs.Prelude.{[]}
 use Rattle.rt_pieces.specs.declared.item.Mark.TheVariants as m
 use Rattle.rt_pieces.specs.declared.item.Word.TheVariants as w
 use Rattle.rt_grammar.specs.Parts.{Part, nothing, ◌>>=◌, turns, within, here, mark, word, number, ident, listed_in, push}
-use Rattle.rt_expression.specs.declared.limits.Context.{Context}
+use Rattle.rt_syntax_exprs.specs.declared.limits.Context.{Context}
 use Rattle.rt_bricks.specs.declared.tree.Module.{Module}
 use Rattle.rt_bricks.specs.Tables.{but_semicolon}
 use Rattle.rt_bricks.specs.Declarations.{declaration}

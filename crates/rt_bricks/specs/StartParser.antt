@@ -5,8 +5,8 @@ use Rattle.rt_grammar.specs.declared.next.Next.{Next}
 use Rattle.rt_grammar.specs.declared.next.Next.TheVariants as next
 use Rattle.rt_grammar.specs.Parts.{push}
 use Rattle.rt_grammar.specs.Parsing.{Parser, ◌>>=◌, pure, refuse, here, by_next, optional, mark, number, text, ident, listed_in, in_table, is_mark, mark_comes, within, turns, turns_from}
-use Rattle.rt_expression.specs.declared.limits.Context.{Context}
-use Rattle.rt_expression.specs.ExpressionParser.{link_comes}
+use Rattle.rt_syntax_exprs.specs.declared.limits.Context.{Context}
+use Rattle.rt_syntax_exprs.specs.ExpressionParser.{link_comes}
 use Rattle.rt_bricks.specs.declared.tree.Sign.{Sign}
 use Rattle.rt_bricks.specs.declared.tree.Parenthesized.{Parenthesized}
 use Rattle.rt_bricks.specs.declared.tree.Selector.{Selector}

@@ -2,7 +2,7 @@
 use Rattle.std.specs.Prelude.{ℕ, zero, suc, List, [], ◌∷◌}
 use Rattle.rt_pieces.specs.declared.item.Mark.TheVariants as m
 use Rattle.rt_grammar.specs.Parts.{Part, nothing, never, either, ◌>>=◌, optional, turns, within, here, mark, number, text, ident, listed_in, push}
-use Rattle.rt_expression.specs.declared.limits.Context.{Context}
+use Rattle.rt_syntax_exprs.specs.declared.limits.Context.{Context}
 use Rattle.rt_bricks.specs.declared.tree.Parenthesized.{Parenthesized}
 use Rattle.rt_bricks.specs.declared.tree.Selector.{Selector}
 use Rattle.rt_bricks.specs.declared.tree.Selector.TheVariants as selector

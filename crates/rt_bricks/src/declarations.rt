@@ -10,13 +10,13 @@ use crate::tree::{
     DataBrick, DataItem, DataLine, Declaration, Fields, Import, ImportedData, ImportedProcedures,
     ImportedStacks, ProcedureBrick, RecordMode, StackBrick, Start,
 };
-use rt_expression::{begins_mode, begins_result, procedure, written_mode};
 use rt_grammar::{
     At, Next, Stop, after_mark, after_word, at_of, ident, mark_comes, next_of, number, open_mark,
     open_word, word_comes,
 };
 use rt_pieces::{Item, Mark, Word};
 use rt_syntax::{Body, Context, WrittenMode, body, names};
+use rt_syntax_exprs::{begins_mode, begins_result, procedure, written_mode};
 use rt_words::List;
 use std::alloc::Global;
 

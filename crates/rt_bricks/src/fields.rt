@@ -1,17 +1,17 @@
 //! Modes and the names that have them: fields of records and parameters (BS 5904, modes and procedures).
 
 ghost use Rattle.std.specs.Prelude.{◌≡◌, ℕ, [], ◌∷◌, IfOk};
-ghost use Rattle.rt_expression.specs.declared.limits.Context.{Context as Limited};
+ghost use Rattle.rt_syntax_exprs.specs.declared.limits.Context.{Context as Limited};
 ghost use Rattle.rt_grammar.specs.Parsing.{Gives};
 ghost use Rattle.rt_bricks.specs.Declarations as line;
 ghost use Rattle.rt_bricks.specs.DeclarationParser as reads;
 ghost use Rattle.rt_bricks.specs.FieldGroups.{FieldsAreGroups};
 
 use crate::tree::Fields;
-use rt_expression::{begins_mode_by_word, written_mode};
 use rt_grammar::{At, Ident, Stop, after_mark, at_of, ident, mark_comes, name_comes, next_of};
 use rt_pieces::{Item, Mark};
 use rt_syntax::{Context, WrittenMode};
+use rt_syntax_exprs::{begins_mode_by_word, written_mode};
 use rt_words::{List, Memory};
 use std::alloc::Global;
 

@@ -1,7 +1,7 @@
 //! Modules: from items to trees (BS 5904, modules, bricks and modes).
 //!
 //! `specs/Declarations.antt` and `specs/Modules.antt` have the grammar, one part for each line, over the
-//! bodies of `rt_syntax` and the modes of `rt_expression`; `specs/Derives.antt` says which module a list
+//! bodies of `rt_syntax` and the modes of `rt_syntax_exprs`; `specs/Derives.antt` says which module a list
 //! of items derives. [`parse_module`] answers that module, or the unfit item's line.
 #![tactic(auto)]
 

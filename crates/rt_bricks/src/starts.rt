@@ -6,12 +6,12 @@ ghost use Rattle.rt_bricks.specs.StartParser as reads;
 
 use crate::table::{is_sign, sign_of};
 use crate::tree::{Parenthesized, Selector, Sign, Start};
-use rt_expression::is_link;
 use rt_grammar::{
     Next, Stop, after_mark, at_of, found_in, ident, mark_comes, next_of, number, open_mark, text,
 };
 use rt_pieces::{Item, Mark};
 use rt_syntax::Context;
+use rt_syntax_exprs::is_link;
 use rt_words::List;
 use std::alloc::Global;
 

@@ -1,5 +1,5 @@
 -- The strings of a module are some of all that stand in it, so they rise.
-use Rattle.std.proofs.Common.{◌≡◌, ℕ, ◌==◌, Bool, true, false, List, [], ◌∷◌, ◌++◌, length, map, drop, Option, Some, None, if◌then◌else◌, refl, sym, ap, ◌∙◌, subst}
+use Rattle.std.proofs.Common.{◌≡◌, ℕ, Bool, true, false, List, [], ◌∷◌, ◌++◌, length, map, drop, Option, Some, None, if◌then◌else◌, sym, ap, ◌∙◌, subst}
 use Rattle.std.specs.List.{AllByRecursion}
 use Rattle.rt_bricks.specs.declared.tree.DataItem.{DataItem}
 use Rattle.rt_bricks.specs.declared.tree.DataLine.{DataLine}
@@ -10,23 +10,23 @@ use Rattle.rt_bricks.specs.declared.tree.Start.{Start, out-Start, roll-Start, ma
 use Rattle.rt_bricks.specs.declared.tree.Start as start_lemmas
 use Rattle.rt_bricks.specs.declared.tree.Start.TheFolds.{ind-Start}
 use Rattle.rt_bricks.specs.declared.tree.Start.TheOpen.{Start-F}
-use Rattle.rt_headings.specs.declared.bricks.Heading.{Heading}
-use Rattle.rt_headings.specs.declared.parts.Given.{Given}
-use Rattle.rt_headings.specs.declared.parts.Given.TheVariants as given
-use Rattle.rt_headings.specs.declared.parts.Part.{Part}
+use Rattle.rt_check_declared.specs.declared.bricks.Heading.{Heading}
+use Rattle.rt_check_declared.specs.declared.parts.Given.{Given}
+use Rattle.rt_check_declared.specs.declared.parts.Given.TheVariants as given
+use Rattle.rt_check_declared.specs.declared.parts.Part.{Part}
 use Rattle.rt_modes.specs.declared.mode.RecordDef.{RecordDef}
 use Rattle.rt_pieces.specs.declared.item.Item.{Item}
-use Rattle.rt_declare.specs.Names.{bricks_in}
-use Rattle.rt_starts.specs.Strings.{used, is_in, texts, start_texts, items_texts, brick_texts}
-use Rattle.rt_starts.specs.Strings.{all as all_texts}
-use Rattle.rt_started.proofs.Texts.{found_at, texts_at}
-use Rattle.rt_strings.specs.Strings.{Texts, Finds, all, in_body}
-use Rattle.rt_derived.specs.Strings.{in_start, in_any, in_items, in_lines, in_declaration, in_declarations, AreSome, none, taken, left, Rise}
-use Rattle.rt_derived.proofs.Strings.{some_strings_rise}
-use Rattle.rt_derived.proofs.StringBricks.{strings_rise}
-use Rattle.rt_judged.specs.Laws.{IsText}
-use Rattle.rt_judged.proofs.Adding.{Adds, add_all, body_adds, start_adds, items_add, data_lines_add}
-use Rattle.rt_typed.specs.Modules.{first, items_in, texts_in, texts_from}
+use Rattle.rt_check_declared.specs.Names.{bricks_in}
+use Rattle.rt_check_starts.specs.Strings.{used, is_in, texts, start_texts, items_texts, brick_texts}
+use Rattle.rt_check_starts.specs.Strings.{all as all_texts}
+use Rattle.rt_check_module_laws.proofs.StartTexts.{found_at, texts_at}
+use Rattle.rt_syntax.specs.Strings.{Texts, Finds, all, in_body}
+use Rattle.rt_bricks_laws.specs.Strings.{in_start, in_any, in_items, in_lines, in_declaration, in_declarations, AreSome, none, taken, left, Rise}
+use Rattle.rt_bricks_laws.proofs.Strings.{some_strings_rise}
+use Rattle.rt_bricks_laws.proofs.StringBricks.{strings_rise}
+use Rattle.rt_check_module_laws.specs.Modules.{IsText}
+use Rattle.rt_check_module_laws.proofs.Adding.{Adds, add_all, body_adds, start_adds, items_add, data_lines_add}
+use Rattle.rt_check_module.specs.Tree.{first, items_in, texts_in, texts_from}
 
 none_of : (ys : Texts) → AreSome [] ys
 none_of [] = none

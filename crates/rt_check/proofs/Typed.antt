@@ -1,21 +1,21 @@
 -- A module without fault is a typed module within what procedures may take.
-use Rattle.std.proofs.Common.{◌≡◌, ◌⊎◌, inl, inr, ℕ, ◌+◌, length, Bool, true, false, List, [], ◌∷◌, Result, Ok, Err, refl, sym, ap, ◌∙◌, subst}
-use Rattle.rt_bricks.specs.declared.tree.Declaration.{Declaration}
+use Rattle.std.proofs.Common.{◌≡◌, inl, inr, ℕ, ◌+◌, length, Bool, true, false, [], ◌∷◌, Result, Ok, Err, sym, ap, ◌∙◌, subst}
 use Rattle.rt_bricks.specs.declared.tree.Module.{Module}
-use Rattle.rt_derived.specs.Strings.{Rise as Rises}
-use Rattle.rt_judged.specs.Laws.{IsFaultless}
-use Rattle.rt_judged.proofs.Reading.{module_within}
-use Rattle.rt_judged.proofs.Whole.{module_fits}
-use Rattle.rt_nodes.specs.declared.brick.ModuleParts.{ModuleParts}
-use Rattle.rt_operands.specs.declared.fault.CheckFault.{CheckFault}
-use Rattle.rt_operands.specs.declared.fault.CheckFault.TheVariants as fault
-use Rattle.rt_operands.specs.Outcomes.{IsAnswered}
-use Rattle.rt_strings.specs.Strings.{Texts}
+use Rattle.rt_bricks_laws.specs.Strings.{Rise as Rises}
+use Rattle.rt_check_module_laws.specs.Modules.{IsFaultless}
+use Rattle.rt_check_module_laws.proofs.Reading.{module_within}
+use Rattle.rt_check_module_laws.proofs.Whole.{module_fits}
+use Rattle.rt_tree_nodes.specs.declared.brick.ModuleParts.{ModuleParts}
+use Rattle.rt_exprs.specs.declared.fault.CheckFault.{CheckFault}
+use Rattle.rt_exprs.specs.declared.fault.CheckFault.TheVariants as fault
+use Rattle.rt_exprs.specs.Outcomes.{IsAnswered}
+use Rattle.rt_syntax.specs.Strings.{Texts}
 use Rattle.rt_tree.specs.Modules.{every_node_fits}
 use Rattle.rt_tree.specs.Within.{Within}
-use Rattle.rt_typed.specs.Modules.{IsTyped, texts_from, records}
-use Rattle.rt_whole.specs.Whole.{Rise, StringsRise}
-use Rattle.rt_check.specs.Texts.{IsDerived}
+use Rattle.rt_check_module.specs.Typed.{IsTyped}
+use Rattle.rt_check_module.specs.Tree.{texts_from, records}
+use Rattle.rt_check.specs.Whole.{Rise, StringsRise}
+use Rattle.rt_check.specs.Derived.{IsDerived}
 use Rattle.rt_check.proofs.Chosen.{texts_rise}
 
 rise_alone : (low high : ℕ) (ts : Texts) → Rises low high ts → Rise low ts

@@ -1,1 +1,6 @@
+pub mod Derived
+pub mod Walks
+pub mod Whole
+pub mod Laws
+pub mod Faults
 pub mod Texts

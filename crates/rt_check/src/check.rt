@@ -1,17 +1,19 @@
 //! A module, checked.
 
 ghost use Rattle.std.specs.Prelude.{IfOk, IfErr};
-ghost use Rattle.rt_operands.specs.declared.fault.CheckFault.{CheckFault};
-ghost use Rattle.rt_operands.specs.Outcomes.{IsAnswered, UnlessMemory};
+ghost use Rattle.rt_exprs.specs.declared.fault.CheckFault.{CheckFault};
+ghost use Rattle.rt_exprs.specs.Outcomes.{IsAnswered, UnlessMemory};
 ghost use Rattle.rt_tree.specs.Within.{Within};
-ghost use Rattle.rt_typed.specs.Modules.{Faults, IsTyped, Led, Stands, tree};
-ghost use Rattle.rt_whole.specs.Whole.{Refuses};
-ghost use Rattle.rt_check.specs.Texts.{IsDerived};
+ghost use Rattle.rt_check_module.specs.Tree.{Faults, Led, tree};
+ghost use Rattle.rt_check_module.specs.Typed.{IsTyped};
+ghost use Rattle.rt_check_module.specs.Faults.{Stands};
+ghost use Rattle.rt_check.specs.Whole.{Refuses};
+ghost use Rattle.rt_check.specs.Derived.{IsDerived};
 
+use crate::read_module;
 use rt_bricks::Module;
-use rt_operands::CheckFault;
+use rt_exprs::CheckFault;
 use rt_tree::TypedModule;
-use rt_whole::read_module;
 use std::alloc::Global;
 
 /// The typed module of a module that the grammar derives.

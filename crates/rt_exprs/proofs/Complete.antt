@@ -4,28 +4,28 @@ use Rattle.std.proofs.lemmas.List.{append-nil, length-map}
 use Rattle.std.proofs.lemmas.Bool.Decides.{nat_tests}
 use Rattle.std.specs.Prelude.{nat_lt}
 use Rattle.rt_grammar.specs.declared.at.At.{At}
-use Rattle.rt_expression.specs.declared.tree.Expr.{Expr}
-use Rattle.rt_expression.specs.declared.tree.Op2.{Op2}
-use Rattle.rt_expression.specs.declared.tree.Chain.{Chain, out-Chain}
-use Rattle.rt_expression.specs.declared.tree.Link.{Link}
+use Rattle.rt_syntax_exprs.specs.declared.tree.Expr.{Expr}
+use Rattle.rt_syntax_exprs.specs.declared.tree.Op2.{Op2}
+use Rattle.rt_syntax_exprs.specs.declared.tree.Chain.{Chain, out-Chain}
+use Rattle.rt_syntax_exprs.specs.declared.tree.Link.{Link}
 use Rattle.rt_modes.specs.declared.mode.Mode.{Mode}
-use Rattle.rt_nodes.specs.declared.value.Value.{Value}
-use Rattle.rt_nodes.specs.declared.value.Place.{Place}
-use Rattle.rt_nodes.specs.declared.value.Callee.{Callee}
-use Rattle.rt_operands.specs.declared.operand.Standing.{Standing}
-use Rattle.rt_operands.specs.declared.fault.CheckFault.{CheckFault}
-use Rattle.rt_operands.specs.declared.fault.CheckFault.TheVariants as fault
-use Rattle.rt_operands.specs.declared.operand.Base.TheVariants as base
-use Rattle.rt_operands.specs.declared.scope.Scope.{Scope}
-use Rattle.rt_operands.specs.Modes.{Want, basic, want}
-use Rattle.rt_operands.specs.Outcomes.{Outcome, both, after}
-use Rattle.rt_operands.specs.Operands.{Found, suits, fits}
-use Rattle.rt_operands.specs.Names.{text_by}
+use Rattle.rt_tree_nodes.specs.declared.value.Value.{Value}
+use Rattle.rt_tree_nodes.specs.declared.value.Place.{Place}
+use Rattle.rt_tree_nodes.specs.declared.value.Callee.{Callee}
+use Rattle.rt_exprs.specs.declared.operand.Standing.{Standing}
+use Rattle.rt_exprs.specs.declared.fault.CheckFault.{CheckFault}
+use Rattle.rt_exprs.specs.declared.fault.CheckFault.TheVariants as fault
+use Rattle.rt_exprs.specs.declared.operand.Base.TheVariants as base
+use Rattle.rt_exprs.specs.declared.scope.Scope.{Scope}
+use Rattle.rt_exprs.specs.Modes.{Want, basic, want}
+use Rattle.rt_exprs.specs.Outcomes.{Outcome, both, after}
+use Rattle.rt_exprs.specs.Operands.{Found, suits, fits}
+use Rattle.rt_exprs.specs.Names.{text_by}
 use Rattle.rt_exprs.specs.Judging.{judged, linked, judged_chain, walk, subscript, arguments_from, counted, call, element, computes, by_left, base_in, frac_or_int, right_takes}
 use Rattle.rt_exprs.specs.Fitting as f
 use Rattle.rt_exprs.specs.Fitting.{IsBy, ChainIs, Leads, Follows, FitsBy, FitEach, FaultIn, FaultInChain, FaultInLinks, FaultInLink, Unfit, UnfitAmong, begins}
 use Rattle.rt_exprs.proofs.Trees.{opened_number, opened_text, opened_chain, opened_val, opened_monadic, opened_dyadic, opened_dot, opened_apply, chain_as, no_parameters}
-use Rattle.rt_operands.proofs.Counting.{Stops, exactly, moved, stops_then, stops_both_left, stops_both_right, stops_after_left, stops_after_right}
+use Rattle.rt_exprs.proofs.Counting.{Stops, exactly, moved, stops_then, stops_both_left, stops_both_right, stops_after_left, stops_after_right}
 
 less : (n m : ℕ) → n < m → nat_lt n m ≡ true
 less n m h = grind (arith, nat_tests)

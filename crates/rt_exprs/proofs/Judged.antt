@@ -1,19 +1,19 @@
 -- The answer of a function that follows the definition, in the terms of fitting.
 use Rattle.std.proofs.Common.{◌≡◌, Bool, true, Result, Ok, Err, inl, inr, sym, ap, ◌∙◌, subst}
 use Rattle.std.specs.Prelude.{IfOk, IfErr, IsTrue}
-use Rattle.rt_expression.specs.declared.tree.Expr.{Expr}
-use Rattle.rt_nodes.specs.declared.value.Value.{Value}
-use Rattle.rt_operands.specs.declared.fault.CheckFault.{CheckFault}
-use Rattle.rt_operands.specs.declared.fault.CheckFault.TheVariants.{Memory, UnknownName, WrongMode, NotAssignable, WrongCount, RefOfLocal, LeftOut, DeclaredTwice, BadStart, UnknownLabel, NoResult}
-use Rattle.rt_operands.specs.declared.scope.Scope.{Scope}
-use Rattle.rt_operands.specs.Modes.{Want}
-use Rattle.rt_operands.specs.Outcomes.{Outcome, Gives, is_before}
-use Rattle.rt_operands.specs.Operands.{fits}
+use Rattle.rt_syntax_exprs.specs.declared.tree.Expr.{Expr}
+use Rattle.rt_tree_nodes.specs.declared.value.Value.{Value}
+use Rattle.rt_exprs.specs.declared.fault.CheckFault.{CheckFault}
+use Rattle.rt_exprs.specs.declared.fault.CheckFault.TheVariants.{Memory, UnknownName, WrongMode, NotAssignable, WrongCount, RefOfLocal, LeftOut, DeclaredTwice, BadStart, UnknownLabel, NoResult}
+use Rattle.rt_exprs.specs.declared.scope.Scope.{Scope}
+use Rattle.rt_exprs.specs.Modes.{Want}
+use Rattle.rt_exprs.specs.Outcomes.{Outcome, Gives, is_before}
+use Rattle.rt_exprs.specs.Operands.{fits}
 use Rattle.rt_exprs.specs.Judging.{judged}
-use Rattle.rt_operands.specs.Outcomes.{IsLeast, Settles, IsAnswered, IsAnsweredAs}
+use Rattle.rt_exprs.specs.Outcomes.{IsLeast, Settles, IsAnswered, IsAnsweredAs}
 use Rattle.rt_exprs.specs.Fitting.{FitsBy, Unfit}
-use Rattle.rt_operands.proofs.Joins.{told}
-use Rattle.rt_operands.proofs.Counting.{Stops}
+use Rattle.rt_exprs.proofs.Joins.{told}
+use Rattle.rt_exprs.proofs.Counting.{Stops}
 use Rattle.rt_exprs.proofs.Complete.{fits_judged, unfit_stops}
 use Rattle.rt_exprs.proofs.Sound.{SoundFit, sound_fit, expr_sound}
 

@@ -3,32 +3,32 @@ use Rattle.std.proofs.Common.{◌≡◌, Bool, true, false, List, [], ◌∷◌,
 use Rattle.std.proofs.lemmas.List.{append-nil}
 use Rattle.std.specs.Prelude.{if◌then◌else◌, IfOk, IfErr}
 use Rattle.rt_grammar.specs.declared.at.At.{At}
-use Rattle.rt_expression.specs.declared.tree.Expr.{Expr}
-use Rattle.rt_expression.specs.declared.tree.Chain.{Chain, out-Chain}
-use Rattle.rt_expression.specs.declared.tree.Cond.{Cond, out-Cond, roll-Cond, map-Cond}
-use Rattle.rt_expression.specs.declared.tree.Cond as conditions
-use Rattle.rt_expression.specs.declared.tree.Cond.TheOpen.{Cond-F}
-use Rattle.rt_expression.specs.declared.tree.Cond.TheFolds.{ind-Cond}
-use Rattle.rt_expression.specs.declared.tree.Rel.{Rel}
+use Rattle.rt_syntax_exprs.specs.declared.tree.Expr.{Expr}
+use Rattle.rt_syntax_exprs.specs.declared.tree.Chain.{Chain, out-Chain}
+use Rattle.rt_syntax_exprs.specs.declared.tree.Cond.{Cond, out-Cond, roll-Cond, map-Cond}
+use Rattle.rt_syntax_exprs.specs.declared.tree.Cond as conditions
+use Rattle.rt_syntax_exprs.specs.declared.tree.Cond.TheOpen.{Cond-F}
+use Rattle.rt_syntax_exprs.specs.declared.tree.Cond.TheFolds.{ind-Cond}
+use Rattle.rt_syntax_exprs.specs.declared.tree.Rel.{Rel}
 use Rattle.rt_modes.specs.declared.mode.Mode.{Mode}
-use Rattle.rt_nodes.specs.declared.statement.Test.{Test}
-use Rattle.rt_nodes.specs.declared.statement.Test.TheVariants as tests
-use Rattle.rt_nodes.specs.declared.value.Place.{Place}
-use Rattle.rt_nodes.specs.declared.value.Value.{Value}
-use Rattle.rt_operands.specs.declared.fault.CheckFault.{CheckFault}
-use Rattle.rt_operands.specs.declared.fault.CheckFault.TheVariants as fault
-use Rattle.rt_operands.specs.declared.operand.Standing.TheVariants as standing
-use Rattle.rt_operands.specs.declared.scope.Scope.{Scope}
-use Rattle.rt_operands.specs.Modes.{Want}
-use Rattle.rt_operands.specs.Outcomes.{Outcome, ◌>>=◌, Gives, both, after, is_before}
-use Rattle.rt_operands.specs.Operands.{Found, place, suits, fits}
-use Rattle.rt_operands.specs.Names.{find}
+use Rattle.rt_tree_nodes.specs.declared.statement.Test.{Test}
+use Rattle.rt_tree_nodes.specs.declared.statement.Test.TheVariants as tests
+use Rattle.rt_tree_nodes.specs.declared.value.Place.{Place}
+use Rattle.rt_tree_nodes.specs.declared.value.Value.{Value}
+use Rattle.rt_exprs.specs.declared.fault.CheckFault.{CheckFault}
+use Rattle.rt_exprs.specs.declared.fault.CheckFault.TheVariants as fault
+use Rattle.rt_exprs.specs.declared.operand.Standing.TheVariants as standing
+use Rattle.rt_exprs.specs.declared.scope.Scope.{Scope}
+use Rattle.rt_exprs.specs.Modes.{Want}
+use Rattle.rt_exprs.specs.Outcomes.{Outcome, ◌>>=◌, Gives, both, after, is_before}
+use Rattle.rt_exprs.specs.Operands.{Found, place, suits, fits}
+use Rattle.rt_exprs.specs.Names.{find}
 use Rattle.rt_exprs.specs.Judging.{judged, judged_chain, found, is_brick, target, assigned, val_target, val, val_by, target_of, alone, called_is, tested, all_from, compares, compare, compare_by, made_rel}
 use Rattle.rt_exprs.specs.Fitting as f
-use Rattle.rt_operands.specs.Outcomes.{Settles, IsAnswered, IsAnsweredAs}
+use Rattle.rt_exprs.specs.Outcomes.{Settles, IsAnswered, IsAnsweredAs}
 use Rattle.rt_exprs.specs.Fitting.{IsBy, ChainIs, FaultIn, FaultInChain, FitsBy, Unfit, IsBrickName, Assigns, NotAssigned, AssignsVal, NotAssignedVal, CallIs, NoCall, TestIs, TestsAre, FaultInTest, FaultAmong}
 use Rattle.rt_exprs.proofs.Trees.{opened_or, opened_and, opened_compare}
-use Rattle.rt_operands.proofs.Counting.{Stops, exactly, moved, stops_then, stops_both_left, stops_both_right, stops_after_left, stops_after_right}
+use Rattle.rt_exprs.proofs.Counting.{Stops, exactly, moved, stops_then, stops_both_left, stops_both_right, stops_after_left, stops_after_right}
 use Rattle.rt_exprs.proofs.Complete.{is_judged, chain_judged, fault_stops, chain_stops, fits_judged, unfit_stops}
 use Rattle.rt_exprs.proofs.Judged.{answer_holds, answer_as, answer_only, answer_settles}
 use Rattle.rt_exprs.proofs.Sound.{SoundIs, SoundChain, SoundFit, sound_fit, expr_sound, whole_chain_sound, EachIs}

@@ -5,29 +5,29 @@ use Rattle.std.proofs.lemmas.Bool.Decides.{nat_tests}
 use Rattle.std.specs.Prelude.{nat_lt, if◌then◌else◌}
 use Rattle.rt_grammar.specs.declared.at.At.{At}
 use Rattle.rt_grammar.specs.declared.at.Ident.{Ident}
-use Rattle.rt_expression.specs.declared.tree.Op1.{Op1}
-use Rattle.rt_expression.specs.declared.tree.Op2.{Op2}
-use Rattle.rt_expression.specs.declared.tree.Expr.{Expr, out-Expr, roll-Expr, map-Expr}
-use Rattle.rt_expression.specs.declared.tree.Expr.TheOpen.{Expr-F, Link-F, Chain-F}
-use Rattle.rt_expression.specs.declared.tree.Expr.TheFolds.{ind-Expr, ind-Chain}
-use Rattle.rt_expression.specs.declared.tree.Expr as expressions
-use Rattle.rt_expression.specs.declared.tree.Link as links
-use Rattle.rt_expression.specs.declared.tree.Chain.{Chain, out-Chain, roll-Chain, map-Chain}
-use Rattle.rt_expression.specs.declared.tree.Link.{Link, out-Link, roll-Link, map-Link}
+use Rattle.rt_syntax_exprs.specs.declared.tree.Op1.{Op1}
+use Rattle.rt_syntax_exprs.specs.declared.tree.Op2.{Op2}
+use Rattle.rt_syntax_exprs.specs.declared.tree.Expr.{Expr, out-Expr, roll-Expr, map-Expr}
+use Rattle.rt_syntax_exprs.specs.declared.tree.Expr.TheOpen.{Expr-F, Link-F, Chain-F}
+use Rattle.rt_syntax_exprs.specs.declared.tree.Expr.TheFolds.{ind-Expr, ind-Chain}
+use Rattle.rt_syntax_exprs.specs.declared.tree.Expr as expressions
+use Rattle.rt_syntax_exprs.specs.declared.tree.Link as links
+use Rattle.rt_syntax_exprs.specs.declared.tree.Chain.{Chain, out-Chain, roll-Chain, map-Chain}
+use Rattle.rt_syntax_exprs.specs.declared.tree.Link.{Link, out-Link, roll-Link, map-Link}
 use Rattle.rt_modes.specs.declared.mode.Mode.{Mode}
-use Rattle.rt_nodes.specs.declared.operators.Op1.{Op1 as Made1}
-use Rattle.rt_nodes.specs.declared.value.Callee.{Callee}
-use Rattle.rt_nodes.specs.declared.value.Place.{Place}
-use Rattle.rt_nodes.specs.declared.value.Value.{Value}
-use Rattle.rt_operands.specs.declared.fault.CheckFault.{CheckFault}
-use Rattle.rt_operands.specs.declared.fault.CheckFault.TheVariants as fault
-use Rattle.rt_operands.specs.declared.operand.Base.TheVariants as base
-use Rattle.rt_operands.specs.declared.operand.Standing.{Standing}
-use Rattle.rt_operands.specs.declared.scope.Scope.{Scope}
-use Rattle.rt_operands.specs.Modes.{Want, basic, want}
-use Rattle.rt_operands.specs.Outcomes.{Outcome, ◌>>=◌, both, after, is_before}
-use Rattle.rt_operands.specs.Operands.{Is, Found, text, named, field_of, suits, fits}
-use Rattle.rt_operands.specs.Names.{find, text_by}
+use Rattle.rt_tree_nodes.specs.declared.operators.Op1.{Op1 as Made1}
+use Rattle.rt_tree_nodes.specs.declared.value.Callee.{Callee}
+use Rattle.rt_tree_nodes.specs.declared.value.Place.{Place}
+use Rattle.rt_tree_nodes.specs.declared.value.Value.{Value}
+use Rattle.rt_exprs.specs.declared.fault.CheckFault.{CheckFault}
+use Rattle.rt_exprs.specs.declared.fault.CheckFault.TheVariants as fault
+use Rattle.rt_exprs.specs.declared.operand.Base.TheVariants as base
+use Rattle.rt_exprs.specs.declared.operand.Standing.{Standing}
+use Rattle.rt_exprs.specs.declared.scope.Scope.{Scope}
+use Rattle.rt_exprs.specs.Modes.{Want, basic, want}
+use Rattle.rt_exprs.specs.Outcomes.{Outcome, ◌>>=◌, both, after, is_before}
+use Rattle.rt_exprs.specs.Operands.{Is, Found, text, named, field_of, suits, fits}
+use Rattle.rt_exprs.specs.Names.{find, text_by}
 use Rattle.rt_exprs.specs.Judging.{judged, linked, judged_chain, walk, found, val, val_by, target_of, monadic, monadic_by, made_monadic, takes, base_in, array_in, of_int, frac_or_int, right_takes, computes, dyadic, by_left, dot, dot_by, field_at, record_in, Reach, rows, calls, neither, reach, apply_by, arguments_from, answered, selected}
 use Rattle.rt_exprs.specs.Fitting as f
 use Rattle.rt_exprs.specs.Fitting.{IsBy, ChainIs, Leads, Follows, FitsBy, FitEach, FaultIn, FaultInChain, FaultInLinks, FaultInLink, Unfit, UnfitAmong, begins, string_at, Names}

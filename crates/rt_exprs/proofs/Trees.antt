@@ -5,37 +5,37 @@ use Rattle.std.proofs.lemmas.Bool.Decides.{nat_tests}
 use Rattle.std.proofs.Math.Seq.{drop-cons}
 use Rattle.std.proofs.lemmas.List.{drop_all}
 use Rattle.rt_modes.specs.declared.mode.Mode.{Mode}
-use Rattle.rt_nodes.specs.declared.value.Value.{Value}
-use Rattle.rt_operands.specs.declared.fault.CheckFault.{CheckFault}
-use Rattle.rt_operands.proofs.Joins.{told, given}
+use Rattle.rt_tree_nodes.specs.declared.value.Value.{Value}
+use Rattle.rt_exprs.specs.declared.fault.CheckFault.{CheckFault}
+use Rattle.rt_exprs.proofs.Joins.{told, given}
 use Rattle.rt_grammar.specs.declared.at.At.{At}
 use Rattle.rt_grammar.specs.declared.at.Ident.{Ident}
-use Rattle.rt_expression.specs.declared.tree.Op1.{Op1}
-use Rattle.rt_expression.specs.declared.tree.Op2.{Op2}
-use Rattle.rt_expression.specs.declared.tree.Expr.{Expr, out-Expr}
-use Rattle.rt_expression.specs.declared.tree.Expr as expressions
-use Rattle.rt_expression.specs.declared.tree.Expr.TheFolds.{fold_out-Expr, fold_out-Link, fold_out-Chain}
-use Rattle.rt_expression.specs.declared.tree.Expr.TheOpen.{Expr-F, Link-F}
-use Rattle.rt_expression.specs.declared.tree.Expr.TheVariants as expr
-use Rattle.rt_expression.specs.declared.tree.Chain.{Chain, out-Chain}
-use Rattle.rt_expression.specs.declared.tree.Link.{Link, out-Link}
-use Rattle.rt_expression.specs.declared.tree.Link as links
-use Rattle.rt_expression.specs.declared.tree.Link.TheVariants as link
-use Rattle.rt_operands.specs.declared.scope.Scope.{Scope}
-use Rattle.rt_operands.specs.Outcomes.{Outcome, ◌>>=◌, Gives, UnlessMemory}
-use Rattle.rt_operands.specs.Operands.{Is, Found, seen, found_of, number, named}
-use Rattle.rt_expression.specs.declared.tree.Cond.{Cond, out-Cond}
-use Rattle.rt_expression.specs.declared.tree.Cond as conditions
-use Rattle.rt_expression.specs.declared.tree.Cond.TheFolds.{fold_out-Cond}
-use Rattle.rt_expression.specs.declared.tree.Cond.TheOpen.{Cond-F}
-use Rattle.rt_expression.specs.declared.tree.Cond.TheVariants as cond
-use Rattle.rt_expression.specs.declared.tree.Rel.{Rel}
-use Rattle.rt_nodes.specs.declared.value.Place.{Place}
-use Rattle.rt_nodes.specs.declared.statement.Test.{Test}
-use Rattle.rt_nodes.specs.declared.statement.Test.TheVariants as tests
-use Rattle.rt_operands.specs.declared.operand.Standing.{Standing}
-use Rattle.rt_operands.specs.declared.operand.Operand.{Operand}
-use Rattle.rt_operands.specs.Names.{text_at, find}
+use Rattle.rt_syntax_exprs.specs.declared.tree.Op1.{Op1}
+use Rattle.rt_syntax_exprs.specs.declared.tree.Op2.{Op2}
+use Rattle.rt_syntax_exprs.specs.declared.tree.Expr.{Expr, out-Expr}
+use Rattle.rt_syntax_exprs.specs.declared.tree.Expr as expressions
+use Rattle.rt_syntax_exprs.specs.declared.tree.Expr.TheFolds.{fold_out-Expr, fold_out-Link, fold_out-Chain}
+use Rattle.rt_syntax_exprs.specs.declared.tree.Expr.TheOpen.{Expr-F, Link-F}
+use Rattle.rt_syntax_exprs.specs.declared.tree.Expr.TheVariants as expr
+use Rattle.rt_syntax_exprs.specs.declared.tree.Chain.{Chain, out-Chain}
+use Rattle.rt_syntax_exprs.specs.declared.tree.Link.{Link, out-Link}
+use Rattle.rt_syntax_exprs.specs.declared.tree.Link as links
+use Rattle.rt_syntax_exprs.specs.declared.tree.Link.TheVariants as link
+use Rattle.rt_exprs.specs.declared.scope.Scope.{Scope}
+use Rattle.rt_exprs.specs.Outcomes.{Outcome, ◌>>=◌, Gives, UnlessMemory}
+use Rattle.rt_exprs.specs.Operands.{Is, Found, seen, found_of, number, named}
+use Rattle.rt_syntax_exprs.specs.declared.tree.Cond.{Cond, out-Cond}
+use Rattle.rt_syntax_exprs.specs.declared.tree.Cond as conditions
+use Rattle.rt_syntax_exprs.specs.declared.tree.Cond.TheFolds.{fold_out-Cond}
+use Rattle.rt_syntax_exprs.specs.declared.tree.Cond.TheOpen.{Cond-F}
+use Rattle.rt_syntax_exprs.specs.declared.tree.Cond.TheVariants as cond
+use Rattle.rt_syntax_exprs.specs.declared.tree.Rel.{Rel}
+use Rattle.rt_tree_nodes.specs.declared.value.Place.{Place}
+use Rattle.rt_tree_nodes.specs.declared.statement.Test.{Test}
+use Rattle.rt_tree_nodes.specs.declared.statement.Test.TheVariants as tests
+use Rattle.rt_exprs.specs.declared.operand.Standing.{Standing}
+use Rattle.rt_exprs.specs.declared.operand.Operand.{Operand}
+use Rattle.rt_exprs.specs.Names.{text_at, find}
 use Rattle.rt_exprs.specs.Judging.{judged, linked, judged_chain, found, val, monadic, dyadic, dot, apply, apply_by, Reach, reach, rows, selected, subscript, chained, walk, arguments_from, tested, all_from, compare}
 
 -- ---- by what opens there

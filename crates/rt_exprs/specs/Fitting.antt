@@ -2,33 +2,33 @@
 use Rattle.std.specs.Prelude.{◌≡◌, ◌≢◌, ℕ, ◌==◌, ◌<◌, Bool, true, false, List, [], ◌∷◌, length, Option, Some, None, Result, Ok, Err, position}
 use Rattle.rt_grammar.specs.declared.at.At.{At}
 use Rattle.rt_grammar.specs.declared.at.Ident.{Ident}
-use Rattle.rt_expression.specs.declared.tree.Op1.{Op1}
-use Rattle.rt_expression.specs.declared.tree.Op2.{Op2}
-use Rattle.rt_expression.specs.declared.tree.Expr.{Expr, out-Expr}
-use Rattle.rt_expression.specs.declared.tree.Expr.TheOpen.{Expr-F, Link-F}
-use Rattle.rt_expression.specs.declared.tree.Chain.{Chain, out-Chain}
-use Rattle.rt_expression.specs.declared.tree.Link.{Link, out-Link}
-use Rattle.rt_expression.specs.declared.tree.Cond.{Cond, out-Cond}
-use Rattle.rt_expression.specs.declared.tree.Cond.TheOpen.{Cond-F}
-use Rattle.rt_expression.specs.declared.tree.Rel.{Rel}
+use Rattle.rt_syntax_exprs.specs.declared.tree.Op1.{Op1}
+use Rattle.rt_syntax_exprs.specs.declared.tree.Op2.{Op2}
+use Rattle.rt_syntax_exprs.specs.declared.tree.Expr.{Expr, out-Expr}
+use Rattle.rt_syntax_exprs.specs.declared.tree.Expr.TheOpen.{Expr-F, Link-F}
+use Rattle.rt_syntax_exprs.specs.declared.tree.Chain.{Chain, out-Chain}
+use Rattle.rt_syntax_exprs.specs.declared.tree.Link.{Link, out-Link}
+use Rattle.rt_syntax_exprs.specs.declared.tree.Cond.{Cond, out-Cond}
+use Rattle.rt_syntax_exprs.specs.declared.tree.Cond.TheOpen.{Cond-F}
+use Rattle.rt_syntax_exprs.specs.declared.tree.Rel.{Rel}
 use Rattle.rt_modes.specs.declared.mode.Mode.{Mode}
-use Rattle.rt_nodes.specs.declared.statement.Test.{Test}
-use Rattle.rt_nodes.specs.declared.statement.Test.TheVariants as tests
-use Rattle.rt_nodes.specs.declared.operators.Op1.{Op1 as Made1}
-use Rattle.rt_nodes.specs.declared.value.Callee.{Callee}
-use Rattle.rt_nodes.specs.declared.value.Place.{Place}
-use Rattle.rt_nodes.specs.declared.value.Place.TheVariants as places
-use Rattle.rt_nodes.specs.declared.value.Value.{Value}
-use Rattle.rt_nodes.specs.declared.value.Value.TheVariants as values
-use Rattle.rt_operands.specs.declared.fault.CheckFault.{CheckFault}
-use Rattle.rt_operands.specs.declared.fault.CheckFault.TheVariants as fault
-use Rattle.rt_operands.specs.declared.operand.Base.TheVariants as base
-use Rattle.rt_operands.specs.declared.operand.Standing.{Standing}
-use Rattle.rt_operands.specs.declared.operand.Standing.TheVariants as standing
-use Rattle.rt_operands.specs.declared.scope.Scope.{Scope}
-use Rattle.rt_operands.specs.Modes.{Want, basic, want}
-use Rattle.rt_operands.specs.Operands.{Is, number, text, place, computed, Found, named, field_of, suits}
-use Rattle.rt_operands.specs.Names.{find}
+use Rattle.rt_tree_nodes.specs.declared.statement.Test.{Test}
+use Rattle.rt_tree_nodes.specs.declared.statement.Test.TheVariants as tests
+use Rattle.rt_tree_nodes.specs.declared.operators.Op1.{Op1 as Made1}
+use Rattle.rt_tree_nodes.specs.declared.value.Callee.{Callee}
+use Rattle.rt_tree_nodes.specs.declared.value.Place.{Place}
+use Rattle.rt_tree_nodes.specs.declared.value.Place.TheVariants as places
+use Rattle.rt_tree_nodes.specs.declared.value.Value.{Value}
+use Rattle.rt_tree_nodes.specs.declared.value.Value.TheVariants as values
+use Rattle.rt_exprs.specs.declared.fault.CheckFault.{CheckFault}
+use Rattle.rt_exprs.specs.declared.fault.CheckFault.TheVariants as fault
+use Rattle.rt_exprs.specs.declared.operand.Base.TheVariants as base
+use Rattle.rt_exprs.specs.declared.operand.Standing.{Standing}
+use Rattle.rt_exprs.specs.declared.operand.Standing.TheVariants as standing
+use Rattle.rt_exprs.specs.declared.scope.Scope.{Scope}
+use Rattle.rt_exprs.specs.Modes.{Want, basic, want}
+use Rattle.rt_exprs.specs.Operands.{Is, number, text, place, computed, Found, named, field_of, suits}
+use Rattle.rt_exprs.specs.Names.{find}
 use Rattle.rt_exprs.specs.Judging.{found, record_in, rows, calls, neither, reach, called, target_of, array_in, base_in, frac_or_int, takes, gives, made_monadic, of_int, right_takes, made_dyadic, is_brick, assigned, called_is, compares, made_rel}
 
 -- the number of the string that begins at an item

@@ -3,52 +3,52 @@ use Rattle.std.specs.Prelude.{ℕ, ◌==◌, Bool, true, false, if◌then◌else
 use Rattle.std.specs.Option.{option_copied}
 use Rattle.rt_grammar.specs.declared.at.At.{At}
 use Rattle.rt_grammar.specs.declared.at.Ident.{Ident}
-use Rattle.rt_expression.specs.declared.tree.Op1.{Op1}
-use Rattle.rt_expression.specs.declared.tree.Op1.TheVariants as op1
-use Rattle.rt_expression.specs.declared.tree.Op2.{Op2}
-use Rattle.rt_expression.specs.declared.tree.Op2.TheVariants as op2
-use Rattle.rt_expression.specs.declared.tree.Rel.{Rel}
-use Rattle.rt_expression.specs.declared.tree.Rel.TheVariants as rel
-use Rattle.rt_expression.specs.declared.tree.Expr.{Expr}
-use Rattle.rt_expression.specs.declared.tree.Expr.TheFolds.{fold-Expr, fold-Link, fold-Chain}
-use Rattle.rt_expression.specs.declared.tree.Expr.TheOpen.{Expr-F, Link-F, Chain-F}
-use Rattle.rt_expression.specs.declared.tree.Chain.{Chain, out-Chain}
-use Rattle.rt_expression.specs.declared.tree.Link.{Link}
-use Rattle.rt_expression.specs.declared.tree.Cond.{Cond}
-use Rattle.rt_expression.specs.declared.tree.Cond.TheFolds.{fold-Cond}
-use Rattle.rt_expression.specs.declared.tree.Cond.TheOpen.{Cond-F}
+use Rattle.rt_syntax_exprs.specs.declared.tree.Op1.{Op1}
+use Rattle.rt_syntax_exprs.specs.declared.tree.Op1.TheVariants as op1
+use Rattle.rt_syntax_exprs.specs.declared.tree.Op2.{Op2}
+use Rattle.rt_syntax_exprs.specs.declared.tree.Op2.TheVariants as op2
+use Rattle.rt_syntax_exprs.specs.declared.tree.Rel.{Rel}
+use Rattle.rt_syntax_exprs.specs.declared.tree.Rel.TheVariants as rel
+use Rattle.rt_syntax_exprs.specs.declared.tree.Expr.{Expr}
+use Rattle.rt_syntax_exprs.specs.declared.tree.Expr.TheFolds.{fold-Expr, fold-Link, fold-Chain}
+use Rattle.rt_syntax_exprs.specs.declared.tree.Expr.TheOpen.{Expr-F, Link-F, Chain-F}
+use Rattle.rt_syntax_exprs.specs.declared.tree.Chain.{Chain, out-Chain}
+use Rattle.rt_syntax_exprs.specs.declared.tree.Link.{Link}
+use Rattle.rt_syntax_exprs.specs.declared.tree.Cond.{Cond}
+use Rattle.rt_syntax_exprs.specs.declared.tree.Cond.TheFolds.{fold-Cond}
+use Rattle.rt_syntax_exprs.specs.declared.tree.Cond.TheOpen.{Cond-F}
 use Rattle.rt_modes.specs.declared.mode.Mode.{Mode, out-Mode}
 use Rattle.rt_modes.specs.declared.mode.Mode.TheOpen.{Mode-F}
 use Rattle.rt_modes.specs.declared.mode.Mode.TheVariants as mode
 use Rattle.rt_modes.specs.declared.mode.RecordDef.{RecordDef}
-use Rattle.rt_nodes.specs.declared.operators.Op1.{Op1 as Made1}
-use Rattle.rt_nodes.specs.declared.operators.Op1.TheVariants as one
-use Rattle.rt_nodes.specs.declared.operators.Op2.{Op2 as Made2}
-use Rattle.rt_nodes.specs.declared.operators.Op2.TheVariants as two
-use Rattle.rt_nodes.specs.declared.operators.Rel.{Rel as MadeRel}
-use Rattle.rt_nodes.specs.declared.operators.Rel.TheVariants as made
-use Rattle.rt_nodes.specs.declared.statement.Test.{Test}
-use Rattle.rt_nodes.specs.declared.statement.Test.TheVariants as tests
-use Rattle.rt_nodes.specs.declared.value.Callee.{Callee}
-use Rattle.rt_nodes.specs.declared.value.Callee.TheVariants as callees
-use Rattle.rt_nodes.specs.declared.value.Place.{Place}
-use Rattle.rt_nodes.specs.declared.value.Place.TheVariants as places
-use Rattle.rt_nodes.specs.declared.value.Value.{Value}
-use Rattle.rt_nodes.specs.declared.value.Value.TheVariants as values
-use Rattle.rt_operands.specs.declared.fault.CheckFault.TheVariants as fault
+use Rattle.rt_tree_nodes.specs.declared.operators.Op1.{Op1 as Made1}
+use Rattle.rt_tree_nodes.specs.declared.operators.Op1.TheVariants as one
+use Rattle.rt_tree_nodes.specs.declared.operators.Op2.{Op2 as Made2}
+use Rattle.rt_tree_nodes.specs.declared.operators.Op2.TheVariants as two
+use Rattle.rt_tree_nodes.specs.declared.operators.Rel.{Rel as MadeRel}
+use Rattle.rt_tree_nodes.specs.declared.operators.Rel.TheVariants as made
+use Rattle.rt_tree_nodes.specs.declared.statement.Test.{Test}
+use Rattle.rt_tree_nodes.specs.declared.statement.Test.TheVariants as tests
+use Rattle.rt_tree_nodes.specs.declared.value.Callee.{Callee}
+use Rattle.rt_tree_nodes.specs.declared.value.Callee.TheVariants as callees
+use Rattle.rt_tree_nodes.specs.declared.value.Place.{Place}
+use Rattle.rt_tree_nodes.specs.declared.value.Place.TheVariants as places
+use Rattle.rt_tree_nodes.specs.declared.value.Value.{Value}
+use Rattle.rt_tree_nodes.specs.declared.value.Value.TheVariants as values
+use Rattle.rt_exprs.specs.declared.fault.CheckFault.TheVariants as fault
 use Rattle.rt_exprs.specs.declared.links.Reach.{Reach as Reached}
 use Rattle.rt_exprs.specs.declared.links.Reach.TheVariants as reaches
-use Rattle.rt_operands.specs.declared.operand.Base.{Base}
-use Rattle.rt_operands.specs.declared.operand.Base.TheVariants as base
-use Rattle.rt_operands.specs.declared.operand.Standing.{Standing}
-use Rattle.rt_operands.specs.declared.operand.Standing.TheVariants as standing
-use Rattle.rt_operands.specs.declared.scope.Meaning.{Meaning}
-use Rattle.rt_operands.specs.declared.scope.Meaning.TheVariants as meaning
-use Rattle.rt_operands.specs.declared.scope.Scope.{Scope}
-use Rattle.rt_operands.specs.Modes.{Want, basic, ref, row, want, ref_of, record_of, through, array_at, base_of}
-use Rattle.rt_operands.specs.Outcomes.{Outcome, ◌>>=◌, both, after, or_fault}
-use Rattle.rt_operands.specs.Names.{find, text_at}
-use Rattle.rt_operands.specs.Operands.{Is, number, text, brick, place, loop, result, computed, done, Found, named, field_of, suits, fits}
+use Rattle.rt_exprs.specs.declared.operand.Base.{Base}
+use Rattle.rt_exprs.specs.declared.operand.Base.TheVariants as base
+use Rattle.rt_exprs.specs.declared.operand.Standing.{Standing}
+use Rattle.rt_exprs.specs.declared.operand.Standing.TheVariants as standing
+use Rattle.rt_exprs.specs.declared.scope.Meaning.{Meaning}
+use Rattle.rt_exprs.specs.declared.scope.Meaning.TheVariants as meaning
+use Rattle.rt_exprs.specs.declared.scope.Scope.{Scope}
+use Rattle.rt_exprs.specs.Modes.{Want, basic, ref, row, want, ref_of, record_of, through, array_at, base_of}
+use Rattle.rt_exprs.specs.Outcomes.{Outcome, ◌>>=◌, both, after, or_fault}
+use Rattle.rt_exprs.specs.Names.{find, text_at}
+use Rattle.rt_exprs.specs.Operands.{Is, number, text, brick, place, loop, result, computed, done, Found, named, field_of, suits, fits}
 
 -- ---- links
 

@@ -1,22 +1,22 @@
 //! Expressions and chains.
 
 ghost use Rattle.std.specs.Prelude.{◌≡◌, map, IfOk, IfErr};
-ghost use Rattle.rt_operands.specs.Outcomes.{Settles, IsAnswered};
+ghost use Rattle.rt_exprs.specs.Outcomes.{Settles, IsAnswered};
 ghost use Rattle.rt_exprs.specs.Fitting.{Fits, Faulty};
 ghost use Rattle.rt_exprs.specs.Judging as spec;
-ghost use Rattle.rt_operands.specs.Modes.{want};
-ghost use Rattle.rt_operands.specs.Operands.{found_of, want_of};
-ghost use Rattle.rt_operands.specs.Outcomes.{Gives};
+ghost use Rattle.rt_exprs.specs.Modes.{want};
+ghost use Rattle.rt_exprs.specs.Operands.{found_of, want_of};
+ghost use Rattle.rt_exprs.specs.Outcomes.{Gives};
 
 use crate::links::{Reach, called, dot, element, reached, val};
 use crate::operators::{dyadic, monadic};
-use rt_expression::{Chain, Expr, Link};
-use rt_grammar::At;
-use rt_modes::Mode;
-use rt_operands::{
+use crate::{
     Base, CheckFault, Meant, Operand, Scope, Wanted, after, find, fits, name_at, text_at,
     wanted as wanted_of,
 };
+use rt_grammar::At;
+use rt_modes::Mode;
+use rt_syntax_exprs::{Chain, Expr, Link};
 use rt_tree::Value;
 use rt_words::List;
 use std::alloc::Global;

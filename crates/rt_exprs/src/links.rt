@@ -3,18 +3,18 @@
 ghost use Rattle.std.specs.Prelude.{◌≡◌, List, IfOk, option_map};
 ghost use Rattle.std.specs.Option.{option_copied};
 ghost use Rattle.rt_modes.specs.declared.mode.Mode.{out-Mode};
-ghost use Rattle.rt_nodes.specs.declared.value.Callee.TheVariants as callees;
-ghost use Rattle.rt_nodes.specs.declared.value.Value.TheVariants as values;
+ghost use Rattle.rt_tree_nodes.specs.declared.value.Callee.TheVariants as callees;
+ghost use Rattle.rt_tree_nodes.specs.declared.value.Value.TheVariants as values;
 ghost use Rattle.rt_exprs.specs.Judging as spec;
-ghost use Rattle.rt_operands.specs.Operands.{Found, seen, found_of};
-ghost use Rattle.rt_operands.specs.Outcomes.{Outcome, Gives};
+ghost use Rattle.rt_exprs.specs.Operands.{Found, seen, found_of};
+ghost use Rattle.rt_exprs.specs.Outcomes.{Outcome, Gives};
 
-use rt_grammar::{At, Ident};
-use rt_modes::Mode;
-use rt_operands::{
+use crate::{
     CheckFault, IndexedRecords, Meant, Operand, Standing, field_named, lent, record_of, ref_of,
     through,
 };
+use rt_grammar::{At, Ident};
+use rt_modes::Mode;
 use rt_tree::{Callee, Place, Value};
 use rt_words::{Boxed, List, Memory};
 use std::alloc::Global;

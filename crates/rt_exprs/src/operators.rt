@@ -3,13 +3,13 @@
 ghost use Rattle.std.specs.Prelude.{◌≡◌, IfOk, Ok};
 ghost use Rattle.rt_modes.specs.declared.mode.Mode.{out-Mode};
 ghost use Rattle.rt_exprs.specs.Judging as spec;
-ghost use Rattle.rt_operands.specs.Operands.{Found, seen, found_of};
-ghost use Rattle.rt_operands.specs.Outcomes.{Outcome, Gives};
+ghost use Rattle.rt_exprs.specs.Operands.{Found, seen, found_of};
+ghost use Rattle.rt_exprs.specs.Outcomes.{Outcome, Gives};
 
-use rt_expression::{Op1, Op2};
+use crate::{Base, CheckFault, Meant, Operand, Wanted, array_at, base_of, both, fits, suits};
 use rt_grammar::At;
 use rt_modes::Mode;
-use rt_operands::{Base, CheckFault, Meant, Operand, Wanted, array_at, base_of, both, fits, suits};
+use rt_syntax_exprs::{Op1, Op2};
 use rt_tree::{Op1 as Made1, Op2 as Made2, Place, Value};
 use rt_words::{Boxed, Memory};
 use std::alloc::Global;

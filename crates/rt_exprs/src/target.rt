@@ -2,21 +2,21 @@
 
 ghost use Rattle.std.specs.Prelude.{◌≡◌, IfOk, IfErr};
 ghost use Rattle.rt_modes.specs.declared.mode.Mode.{Mode};
-ghost use Rattle.rt_nodes.specs.declared.value.Place.{Place};
-ghost use Rattle.rt_operands.specs.Outcomes.{Settles, IsAnswered, IsAnsweredAs};
+ghost use Rattle.rt_tree_nodes.specs.declared.value.Place.{Place};
+ghost use Rattle.rt_exprs.specs.Outcomes.{Settles, IsAnswered, IsAnsweredAs};
 ghost use Rattle.rt_exprs.specs.Fitting.{Assigns, NotAssigned, AssignsVal, NotAssignedVal, CallIs, NoCall};
 ghost use Rattle.std.specs.Option.{option_copied};
 ghost use Rattle.rt_modes.specs.declared.mode.Mode.{out-Mode};
 ghost use Rattle.rt_exprs.specs.Judging as spec;
-ghost use Rattle.rt_operands.specs.Operands.{found_of};
-ghost use Rattle.rt_operands.specs.Outcomes.{Gives};
+ghost use Rattle.rt_exprs.specs.Operands.{found_of};
+ghost use Rattle.rt_exprs.specs.Outcomes.{Gives};
 
 use crate::expression::judge_chain;
 use crate::links::val;
-use rt_expression::{Chain, Link};
+use crate::{CheckFault, Meaning, Meant, Operand, Scope, find};
 use rt_grammar::At;
 use rt_modes::Mode;
-use rt_operands::{CheckFault, Meaning, Meant, Operand, Scope, find};
+use rt_syntax_exprs::{Chain, Link};
 use rt_tree::{Place, Value};
 use std::alloc::Global;
 

@@ -11,6 +11,3 @@ mod system;
 
 pub use module::{FirstModule, one_module, read_first_module};
 pub use system::{FirstSystem, one_system, read_first_system};
-
-#[cfg(test)]
-mod tests;

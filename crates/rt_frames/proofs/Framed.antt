@@ -1,13 +1,13 @@
 -- The frame that a walk gives.
 use Rattle.std.proofs.Common.{◌≡◌, ℕ, max, false, [], length, Option, Some, slice_get, refl, sym, ◌∙◌, arith}
 use Rattle.rt_modes.specs.declared.mode.Mode.{Mode}
-use Rattle.rt_nodes.specs.declared.brick.Brick.{Brick}
-use Rattle.rt_nodes.specs.declared.brick.BrickSort.TheVariants as sort
-use Rattle.rt_nodes.specs.declared.brick.ModuleParts.{ModuleParts}
-use Rattle.rt_nodes.specs.declared.brick.ProcBody.{ProcBody}
+use Rattle.rt_tree_nodes.specs.declared.brick.Brick.{Brick}
+use Rattle.rt_tree_nodes.specs.declared.brick.BrickSort.TheVariants as sort
+use Rattle.rt_tree_nodes.specs.declared.brick.ModuleParts.{ModuleParts}
+use Rattle.rt_tree_nodes.specs.declared.brick.ProcBody.{ProcBody}
 use Rattle.rt_tree.specs.Depth.{sequence_depth, sequence_recovers}
-use Rattle.rt_nodes.specs.Scopes.{scope_of, with_locals}
-use Rattle.rt_nodes.specs.Scopes.{Scope}
+use Rattle.rt_tree_nodes.specs.Scopes.{scope_of, with_locals}
+use Rattle.rt_tree_nodes.specs.Scopes.{Scope}
 use Rattle.rt_tree.specs.Statements.{body_tree}
 use Rattle.rt_tree.specs.Within.{parameters_of}
 use Rattle.rt_frames.specs.declared.frame.Frame.{Frame}

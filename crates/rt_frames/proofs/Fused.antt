@@ -1,15 +1,15 @@
 -- The points of values are gathered over the same plain trees as those of the typed tree.
 use Rattle.std.proofs.Common.{◌≡◌, List, [], ◌∷◌, map, refl, sym, ap, ◌∙◌}
-use Rattle.rt_nodes.specs.declared.value.Callee.{Callee, out-Callee, roll-Callee, map-Callee}
-use Rattle.rt_nodes.specs.declared.value.Callee as callees
-use Rattle.rt_nodes.specs.declared.value.Callee.TheFolds.{ind-Value, ind-Place, fold_out-Callee, fold_out-Place, fold_out-Value}
-use Rattle.rt_nodes.specs.declared.value.Callee.TheOpen.{Callee-F, Place-F, Value-F}
-use Rattle.rt_nodes.specs.declared.value.Place.{Place, out-Place, roll-Place, map-Place}
-use Rattle.rt_nodes.specs.declared.value.Place as places
-use Rattle.rt_nodes.specs.declared.value.Value.{Value, out-Value, roll-Value, map-Value}
-use Rattle.rt_nodes.specs.declared.value.Value as values
-use Rattle.rt_nodes.specs.Scopes.{Scope}
-use Rattle.rt_nodes.specs.Typing.{Called, Placed, Valued, one_callee, one_place, one_value, called, placed, valued}
+use Rattle.rt_tree_nodes.specs.declared.value.Callee.{Callee, out-Callee, roll-Callee, map-Callee}
+use Rattle.rt_tree_nodes.specs.declared.value.Callee as callees
+use Rattle.rt_tree_nodes.specs.declared.value.Callee.TheFolds.{ind-Value, ind-Place, fold_out-Callee, fold_out-Place, fold_out-Value}
+use Rattle.rt_tree_nodes.specs.declared.value.Callee.TheOpen.{Callee-F, Place-F, Value-F}
+use Rattle.rt_tree_nodes.specs.declared.value.Place.{Place, out-Place, roll-Place, map-Place}
+use Rattle.rt_tree_nodes.specs.declared.value.Place as places
+use Rattle.rt_tree_nodes.specs.declared.value.Value.{Value, out-Value, roll-Value, map-Value}
+use Rattle.rt_tree_nodes.specs.declared.value.Value as values
+use Rattle.rt_tree_nodes.specs.Scopes.{Scope}
+use Rattle.rt_tree_nodes.specs.Typing.{Called, Placed, Valued, one_callee, one_place, one_value, called, placed, valued}
 use Rattle.rt_frames.specs.Points.{CalleePoints, PlacePoints, ValuePoints, callee_step, place_step, value_step, callee_points, place_points, value_points, values_of}
 
 module _ (c : Scope) where

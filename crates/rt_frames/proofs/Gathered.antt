@@ -1,28 +1,28 @@
 -- What a walk over statements takes is the depth of their plain tree, whether it recovers, and the points.
 use Rattle.std.proofs.Common.{◌≡◌, ℕ, max, Bool, true, false, ◌||◌, List, [], ◌∷◌, ◌++◌, map, Option, Some, None, option_map, refl, sym, ap, ◌∙◌, arith, append_assoc}
 use Rattle.std.proofs.lemmas.List.{append-nil}
-use Rattle.rt_nodes.specs.declared.statement.Body.{Body, out-Body, roll-Body, map-Body}
-use Rattle.rt_nodes.specs.declared.statement.Body as bodies
-use Rattle.rt_nodes.specs.declared.statement.Branch.{Branch, out-Branch, roll-Branch, map-Branch}
-use Rattle.rt_nodes.specs.declared.statement.Branch as branches
-use Rattle.rt_nodes.specs.declared.statement.Labelled.{Labelled, out-Labelled, roll-Labelled, map-Labelled}
-use Rattle.rt_nodes.specs.declared.statement.Labelled as lines
-use Rattle.rt_nodes.specs.declared.statement.LocalStart.{LocalStart}
-use Rattle.rt_nodes.specs.declared.statement.Stat.{Stat, out-Stat, roll-Stat, map-Stat}
-use Rattle.rt_nodes.specs.declared.statement.Stat as stats
-use Rattle.rt_nodes.specs.declared.statement.Stat.TheFolds.{ind-Body, fold-Stat, fold-Branch, fold-Labelled, fold_out-Stat, fold_out-Body, fold_out-Branch, fold_out-Labelled}
-use Rattle.rt_nodes.specs.declared.statement.Stat.TheOpen.{Stat-F, Body-F, Branch-F, Labelled-F}
-use Rattle.rt_nodes.specs.declared.statement.Test.{Test, out-Test, roll-Test, map-Test}
-use Rattle.rt_nodes.specs.declared.statement.Test as tests
-use Rattle.rt_nodes.specs.declared.statement.Test.TheFolds.{ind-Test, fold_out-Test}
-use Rattle.rt_nodes.specs.declared.statement.Test.TheOpen.{Test-F}
-use Rattle.rt_nodes.specs.declared.value.Place.{Place}
-use Rattle.rt_nodes.specs.declared.value.Value.{Value}
+use Rattle.rt_tree_nodes.specs.declared.statement.Body.{Body, out-Body, roll-Body, map-Body}
+use Rattle.rt_tree_nodes.specs.declared.statement.Body as bodies
+use Rattle.rt_tree_nodes.specs.declared.statement.Branch.{Branch, out-Branch, roll-Branch, map-Branch}
+use Rattle.rt_tree_nodes.specs.declared.statement.Branch as branches
+use Rattle.rt_tree_nodes.specs.declared.statement.Labelled.{Labelled, out-Labelled, roll-Labelled, map-Labelled}
+use Rattle.rt_tree_nodes.specs.declared.statement.Labelled as lines
+use Rattle.rt_tree_nodes.specs.declared.statement.LocalStart.{LocalStart}
+use Rattle.rt_tree_nodes.specs.declared.statement.Stat.{Stat, out-Stat, roll-Stat, map-Stat}
+use Rattle.rt_tree_nodes.specs.declared.statement.Stat as stats
+use Rattle.rt_tree_nodes.specs.declared.statement.Stat.TheFolds.{ind-Body, fold-Stat, fold-Branch, fold-Labelled, fold_out-Stat, fold_out-Body, fold_out-Branch, fold_out-Labelled}
+use Rattle.rt_tree_nodes.specs.declared.statement.Stat.TheOpen.{Stat-F, Body-F, Branch-F, Labelled-F}
+use Rattle.rt_tree_nodes.specs.declared.statement.Test.{Test, out-Test, roll-Test, map-Test}
+use Rattle.rt_tree_nodes.specs.declared.statement.Test as tests
+use Rattle.rt_tree_nodes.specs.declared.statement.Test.TheFolds.{ind-Test, fold_out-Test}
+use Rattle.rt_tree_nodes.specs.declared.statement.Test.TheOpen.{Test-F}
+use Rattle.rt_tree_nodes.specs.declared.value.Place.{Place}
+use Rattle.rt_tree_nodes.specs.declared.value.Value.{Value}
 use Rattle.rt_tree.specs.Depth.{depth, condition_depth, statement_depth, sequence_depth, statement_recovers, sequence_recovers, above}
-use Rattle.rt_nodes.specs.Scopes.{Scope}
+use Rattle.rt_tree_nodes.specs.Scopes.{Scope}
 use Rattle.rt_tree.specs.Statements.{Tested, one_test, tested, joined_by, stat_tree, body_tree, labelled_tree, sequence_tree, otherwise_tree, branches_tree, if_tree, call_tree, assigned_tree, starts_tree, start_tree, step_tree, return_tree, marks}
-use Rattle.rt_nodes.specs.Tree.{Term, Cond, Both, Either, Stmt, Seq, Done, Then}
-use Rattle.rt_nodes.specs.Typing.{Valued, Placed, Spot, OnLocal, OnPath, OnRow, valued, placed}
+use Rattle.rt_tree_nodes.specs.Tree.{Term, Cond, Both, Either, Stmt, Seq, Done, Then}
+use Rattle.rt_tree_nodes.specs.Typing.{Valued, Placed, Spot, OnLocal, OnPath, OnRow, valued, placed}
 use Rattle.rt_frames.specs.declared.frame.CallPoint.{CallPoint}
 use Rattle.rt_frames.specs.declared.statements.Walk.{Walk}
 use Rattle.rt_frames.specs.Measures.{address_of}

@@ -3,9 +3,9 @@ use Rattle.std.proofs.Common.{◌≡◌, ◌==◌, ◌≤◌, drop, map, ℕ, su
 use Rattle.std.proofs.lemmas.Bool.Decides.{nat_tests}
 use Rattle.std.proofs.lemmas.List.{append-nil, drop_all}
 use Rattle.rt_modes.specs.declared.mode.Mode.{Mode}
-use Rattle.rt_nodes.specs.declared.value.Value.{Value}
+use Rattle.rt_tree_nodes.specs.declared.value.Value.{Value}
 use Rattle.rt_tree.specs.Depth.{depth, arguments_depth}
-use Rattle.rt_nodes.specs.Typing.{all_suit, suits, terms_of}
+use Rattle.rt_tree_nodes.specs.Typing.{all_suit, suits, terms_of}
 use Rattle.rt_frames.specs.Measures.{Passing, pass_one, pass_all, is_none, first_suits, after_first}
 use Rattle.rt_frames.specs.Points.{ValuePoints, values_of, arguments_points}
 

@@ -3,20 +3,20 @@ use Rattle.std.proofs.Common.{◌≡◌, ℕ, suc, ◌+◌, max, List, ◌++◌,
 use Rattle.std.proofs.lemmas.List.{length-map}
 use Rattle.rt_modes.specs.declared.mode.Mode.{Mode, out-Mode}
 use Rattle.rt_modes.specs.declared.mode.Mode.TheOpen.{Mode-F}
-use Rattle.rt_nodes.specs.declared.operators.Op2.{Op2}
-use Rattle.rt_nodes.specs.declared.value.Callee.{Callee}
-use Rattle.rt_nodes.specs.declared.value.Callee.TheOpen.{Place-F, Value-F}
-use Rattle.rt_nodes.specs.declared.value.Place.{Place, out-Place}
-use Rattle.rt_nodes.specs.declared.value.Place as places
-use Rattle.rt_nodes.specs.declared.value.Place.TheVariants as place
-use Rattle.rt_nodes.specs.declared.value.Value.{Value, out-Value}
-use Rattle.rt_nodes.specs.declared.value.Value as values
-use Rattle.rt_nodes.specs.declared.value.Value.TheVariants as value
-use Rattle.rt_nodes.specs.Code.{mode_found, place_found}
+use Rattle.rt_tree_nodes.specs.declared.operators.Op2.{Op2}
+use Rattle.rt_tree_nodes.specs.declared.value.Callee.{Callee}
+use Rattle.rt_tree_nodes.specs.declared.value.Callee.TheOpen.{Place-F, Value-F}
+use Rattle.rt_tree_nodes.specs.declared.value.Place.{Place, out-Place}
+use Rattle.rt_tree_nodes.specs.declared.value.Place as places
+use Rattle.rt_tree_nodes.specs.declared.value.Place.TheVariants as place
+use Rattle.rt_tree_nodes.specs.declared.value.Value.{Value, out-Value}
+use Rattle.rt_tree_nodes.specs.declared.value.Value as values
+use Rattle.rt_tree_nodes.specs.declared.value.Value.TheVariants as value
+use Rattle.rt_tree_nodes.specs.Code.{mode_found, place_found}
 use Rattle.rt_tree.specs.Depth.{depth, address_depth}
-use Rattle.rt_nodes.specs.Scopes.{Scope, with}
-use Rattle.rt_nodes.specs.Tree.{Term, Path}
-use Rattle.rt_nodes.specs.Typing.{Placed, Found, Variable, Loop, Shared, Private, Row, Spot, OnLocal, OnPath, OnRow, field_found, field_in, field_path, element_found, element_in, element_path, read_mode, reference_mode, length_mode, read_tree, reference_tree, reference_path, length_tree, length_path, mode_at}
+use Rattle.rt_tree_nodes.specs.Scopes.{Scope, with}
+use Rattle.rt_tree_nodes.specs.Tree.{Term, Path}
+use Rattle.rt_tree_nodes.specs.Typing.{Placed, Found, Variable, Loop, Shared, Private, Row, Spot, OnLocal, OnPath, OnRow, field_found, field_in, field_path, element_found, element_in, element_path, read_mode, reference_mode, length_mode, read_tree, reference_tree, reference_path, length_tree, length_path, mode_at}
 use Rattle.rt_frames.specs.declared.frame.CallPoint.{CallPoint}
 use Rattle.rt_frames.specs.declared.measure.Address.TheVariants as address
 use Rattle.rt_frames.specs.declared.measure.Measured.{Measured}

@@ -2,29 +2,29 @@
 use Rattle.std.proofs.Common.{◌≡◌, ℕ, ◌+◌, ◌≤◌, ◌==◌, max, Bool, true, false, ◌&&◌, ◌||◌, if◌then◌else◌, List, [], ◌∷◌, ◌++◌, map, Option, Some, None, option_map, slice_get, refl, sym, ap, subst, ◌∙◌, arith}
 use Rattle.std.proofs.lemmas.Bool.{and_parts}
 use Rattle.rt_modes.specs.declared.mode.Mode.{Mode}
-use Rattle.rt_nodes.specs.declared.brick.Local.{Local}
-use Rattle.rt_nodes.specs.declared.brick.Local.TheVariants as local
-use Rattle.rt_nodes.specs.declared.operators.Rel.{Rel}
-use Rattle.rt_nodes.specs.declared.statement.Body.{Body, out-Body, roll-Body, map-Body}
-use Rattle.rt_nodes.specs.declared.statement.Body as bodies
-use Rattle.rt_nodes.specs.declared.statement.Branch.{Branch, out-Branch, roll-Branch, map-Branch}
-use Rattle.rt_nodes.specs.declared.statement.Branch as branches
-use Rattle.rt_nodes.specs.declared.statement.Labelled.{Labelled, out-Labelled, roll-Labelled, map-Labelled}
-use Rattle.rt_nodes.specs.declared.statement.Labelled as lines
-use Rattle.rt_nodes.specs.declared.statement.LocalStart.{LocalStart}
-use Rattle.rt_nodes.specs.declared.statement.Stat.{Stat, out-Stat, roll-Stat, map-Stat}
-use Rattle.rt_nodes.specs.declared.statement.Stat as stats
-use Rattle.rt_nodes.specs.declared.statement.Stat.TheFolds.{ind-Body, fold-Stat, fold-Branch, fold-Labelled, fold_out-Stat, fold_out-Body, fold_out-Branch, fold_out-Labelled}
-use Rattle.rt_nodes.specs.declared.statement.Stat.TheOpen.{Stat-F, Body-F, Branch-F, Labelled-F}
-use Rattle.rt_nodes.specs.declared.statement.Test.{Test, out-Test, roll-Test, map-Test}
-use Rattle.rt_nodes.specs.declared.statement.Test as tests
-use Rattle.rt_nodes.specs.declared.statement.Test.TheFolds.{ind-Test, fold_out-Test}
-use Rattle.rt_nodes.specs.declared.statement.Test.TheOpen.{Test-F}
-use Rattle.rt_nodes.specs.declared.value.Place.{Place}
-use Rattle.rt_nodes.specs.declared.value.Value.{Value}
-use Rattle.rt_nodes.specs.Scopes.{Scope, with, passes}
-use Rattle.rt_nodes.specs.Tree.{Term, Cond, Both, Either, Stmt, Seq, Done, Then}
-use Rattle.rt_nodes.specs.Typing.{Valued, Placed, Found, Variable, Loop, Shared, Private, Row, Spot, OnLocal, OnPath, OnRow, valued, placed, suits, assigned_mode, is_int}
+use Rattle.rt_tree_nodes.specs.declared.brick.Local.{Local}
+use Rattle.rt_tree_nodes.specs.declared.brick.Local.TheVariants as local
+use Rattle.rt_tree_nodes.specs.declared.operators.Rel.{Rel}
+use Rattle.rt_tree_nodes.specs.declared.statement.Body.{Body, out-Body, roll-Body, map-Body}
+use Rattle.rt_tree_nodes.specs.declared.statement.Body as bodies
+use Rattle.rt_tree_nodes.specs.declared.statement.Branch.{Branch, out-Branch, roll-Branch, map-Branch}
+use Rattle.rt_tree_nodes.specs.declared.statement.Branch as branches
+use Rattle.rt_tree_nodes.specs.declared.statement.Labelled.{Labelled, out-Labelled, roll-Labelled, map-Labelled}
+use Rattle.rt_tree_nodes.specs.declared.statement.Labelled as lines
+use Rattle.rt_tree_nodes.specs.declared.statement.LocalStart.{LocalStart}
+use Rattle.rt_tree_nodes.specs.declared.statement.Stat.{Stat, out-Stat, roll-Stat, map-Stat}
+use Rattle.rt_tree_nodes.specs.declared.statement.Stat as stats
+use Rattle.rt_tree_nodes.specs.declared.statement.Stat.TheFolds.{ind-Body, fold-Stat, fold-Branch, fold-Labelled, fold_out-Stat, fold_out-Body, fold_out-Branch, fold_out-Labelled}
+use Rattle.rt_tree_nodes.specs.declared.statement.Stat.TheOpen.{Stat-F, Body-F, Branch-F, Labelled-F}
+use Rattle.rt_tree_nodes.specs.declared.statement.Test.{Test, out-Test, roll-Test, map-Test}
+use Rattle.rt_tree_nodes.specs.declared.statement.Test as tests
+use Rattle.rt_tree_nodes.specs.declared.statement.Test.TheFolds.{ind-Test, fold_out-Test}
+use Rattle.rt_tree_nodes.specs.declared.statement.Test.TheOpen.{Test-F}
+use Rattle.rt_tree_nodes.specs.declared.value.Place.{Place}
+use Rattle.rt_tree_nodes.specs.declared.value.Value.{Value}
+use Rattle.rt_tree_nodes.specs.Scopes.{Scope, with, passes}
+use Rattle.rt_tree_nodes.specs.Tree.{Term, Cond, Both, Either, Stmt, Seq, Done, Then}
+use Rattle.rt_tree_nodes.specs.Typing.{Valued, Placed, Found, Variable, Loop, Shared, Private, Row, Spot, OnLocal, OnPath, OnRow, valued, placed, suits, assigned_mode, is_int}
 use Rattle.rt_tree.specs.Depth.{depth, condition_depth, statement_depth, sequence_depth, above, address_depth}
 use Rattle.rt_tree.specs.Statements as S
 use Rattle.rt_tree.specs.Statements.{Tested, Marked, Sight, one_test, tested, joined_by, comparison_fits, all_fit, some_fit, nothing, then_part, where_it_holds, in_order, labels_end, sight_with, labels_from, next_by, sequence, branches_in_order, otherwise, marked, marked_part, marks, labelled_tree, sequence_tree, otherwise_tree, branches_tree, if_tree, call_tree, assigned_tree, start_tree, starts_tree, step_tree, return_tree, stat_tree, body_tree, declares, start_fits, takes_three, is_int_value, is_int_step, assigns, value_returned, returns, is_call}

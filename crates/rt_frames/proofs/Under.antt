@@ -6,22 +6,22 @@ use Rattle.rt_modes.specs.declared.mode.Field.{Field}
 use Rattle.rt_modes.specs.declared.mode.Mode.{Mode, out-Mode}
 use Rattle.rt_modes.specs.declared.mode.Mode.TheOpen.{Mode-F}
 use Rattle.rt_modes.specs.declared.mode.RecordDef.{RecordDef}
-use Rattle.rt_nodes.specs.declared.brick.Local.{Local}
-use Rattle.rt_nodes.specs.declared.brick.Local.TheVariants as local
-use Rattle.rt_nodes.specs.declared.operators.Op1.{Op1}
-use Rattle.rt_nodes.specs.declared.operators.Op2.{Op2}
-use Rattle.rt_nodes.specs.declared.operators.Op2.TheVariants as two
-use Rattle.rt_nodes.specs.declared.value.Callee.{Callee, out-Callee, roll-Callee, map-Callee}
-use Rattle.rt_nodes.specs.declared.value.Callee as callees
-use Rattle.rt_nodes.specs.declared.value.Callee.TheFolds.{ind-Value, ind-Place}
-use Rattle.rt_nodes.specs.declared.value.Callee.TheOpen.{Callee-F, Place-F, Value-F}
-use Rattle.rt_nodes.specs.declared.value.Place.{Place, out-Place, roll-Place, map-Place}
-use Rattle.rt_nodes.specs.declared.value.Place as places
-use Rattle.rt_nodes.specs.declared.value.Value.{Value, out-Value, roll-Value, map-Value}
-use Rattle.rt_nodes.specs.declared.value.Value as values
-use Rattle.rt_nodes.specs.Scopes.{Scope, Face, with, only, passes, items_of, is_svc, field_at, svc_mode}
-use Rattle.rt_nodes.specs.Tree.{Term, Num, Str, Name, Own, Get, Ref, RefRow, Count, CountRow, One, Two, Over, Apply, ApplyBy, Terms}
-use Rattle.rt_nodes.specs.Typing.{Valued, Found, Variable, Loop, Shared, Private, Row, Spot, OnLocal, OnPath, OnRow, is_int, suits, all_suit, terms_of, local_found, kept, field_found, field_by, field_in, element_found, element_by, element_in, led, led_by, led_spot, led_tree, dyadic_tree, call_mode, signature_by}
+use Rattle.rt_tree_nodes.specs.declared.brick.Local.{Local}
+use Rattle.rt_tree_nodes.specs.declared.brick.Local.TheVariants as local
+use Rattle.rt_tree_nodes.specs.declared.operators.Op1.{Op1}
+use Rattle.rt_tree_nodes.specs.declared.operators.Op2.{Op2}
+use Rattle.rt_tree_nodes.specs.declared.operators.Op2.TheVariants as two
+use Rattle.rt_tree_nodes.specs.declared.value.Callee.{Callee, out-Callee, roll-Callee, map-Callee}
+use Rattle.rt_tree_nodes.specs.declared.value.Callee as callees
+use Rattle.rt_tree_nodes.specs.declared.value.Callee.TheFolds.{ind-Value, ind-Place}
+use Rattle.rt_tree_nodes.specs.declared.value.Callee.TheOpen.{Callee-F, Place-F, Value-F}
+use Rattle.rt_tree_nodes.specs.declared.value.Place.{Place, out-Place, roll-Place, map-Place}
+use Rattle.rt_tree_nodes.specs.declared.value.Place as places
+use Rattle.rt_tree_nodes.specs.declared.value.Value.{Value, out-Value, roll-Value, map-Value}
+use Rattle.rt_tree_nodes.specs.declared.value.Value as values
+use Rattle.rt_tree_nodes.specs.Scopes.{Scope, Face, with, only, passes, items_of, is_svc, field_at, svc_mode}
+use Rattle.rt_tree_nodes.specs.Tree.{Term, Num, Str, Name, Own, Get, Ref, RefRow, Count, CountRow, One, Two, Over, Apply, ApplyBy, Terms}
+use Rattle.rt_tree_nodes.specs.Typing.{Valued, Found, Variable, Loop, Shared, Private, Row, Spot, OnLocal, OnPath, OnRow, is_int, suits, all_suit, terms_of, local_found, kept, field_found, field_by, field_in, element_found, element_by, element_in, led, led_by, led_spot, led_tree, dyadic_tree, call_mode, signature_by}
 use Rattle.rt_tree.specs.Depth.{depth, address_depth, arguments_depth, above, behind}
 use Rattle.rt_frames.specs.declared.frame.CallPoint.{CallPoint}
 use Rattle.rt_frames.specs.declared.frame.Target.{Target}

@@ -3,15 +3,15 @@ use Rattle.std.proofs.Common.{◌≡◌, ℕ, zero, suc, ◌<◌, Bool, true, �
 use Rattle.std.specs.List.{AllByRecursion, list_all}
 use Rattle.std.proofs.lemmas.Bool.{and_parts}
 use Rattle.rt_modes.specs.declared.mode.Mode.{Mode, out-Mode}
-use Rattle.rt_nodes.specs.declared.brick.Brick.{Brick}
-use Rattle.rt_nodes.specs.declared.brick.BrickSort.{BrickSort}
-use Rattle.rt_nodes.specs.declared.brick.BrickSort.TheVariants as sort
-use Rattle.rt_nodes.specs.declared.brick.Kind.{Kind}
-use Rattle.rt_nodes.specs.declared.brick.ModuleParts.{ModuleParts}
-use Rattle.rt_nodes.specs.declared.brick.ProcBody.{ProcBody}
-use Rattle.rt_nodes.specs.declared.statement.Body.{out-Body}
-use Rattle.rt_nodes.specs.Scopes.{Scope, with, passes, scope_of, with_locals}
-use Rattle.rt_nodes.specs.Typing.{Signature, signature_by}
+use Rattle.rt_tree_nodes.specs.declared.brick.Brick.{Brick}
+use Rattle.rt_tree_nodes.specs.declared.brick.BrickSort.{BrickSort}
+use Rattle.rt_tree_nodes.specs.declared.brick.BrickSort.TheVariants as sort
+use Rattle.rt_tree_nodes.specs.declared.brick.Kind.{Kind}
+use Rattle.rt_tree_nodes.specs.declared.brick.ModuleParts.{ModuleParts}
+use Rattle.rt_tree_nodes.specs.declared.brick.ProcBody.{ProcBody}
+use Rattle.rt_tree_nodes.specs.declared.statement.Body.{out-Body}
+use Rattle.rt_tree_nodes.specs.Scopes.{Scope, with, passes, scope_of, with_locals}
+use Rattle.rt_tree_nodes.specs.Typing.{Signature, signature_by}
 use Rattle.rt_tree.specs.Depth.{sequence_depth}
 use Rattle.rt_tree.specs.Modules.{record_stands, brick_fits, sort_fits, procedure_fits, body_fits, proc_fits, is_here, stands_alone, parameters_first, local_stands, numbers_all, numbers_behind, is_last, closes, is_short, first_sight}
 use Rattle.rt_tree.specs.Statements.{body_tree, labels_end, marked, next_by}

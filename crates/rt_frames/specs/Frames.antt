@@ -1,13 +1,13 @@
 -- The frame of an own or ENT procedure of a module: its parameters, its locals, its greatest depth and its points.
 use Rattle.std.specs.Prelude.{ℕ, ◌+◌, ◌-◌, Bool, if◌then◌else◌, Option, Some, None, slice_get}
 use Rattle.rt_modes.specs.declared.mode.Mode.{Mode}
-use Rattle.rt_nodes.specs.declared.brick.BrickSort.{BrickSort}
-use Rattle.rt_nodes.specs.declared.brick.BrickSort.TheVariants as sort
-use Rattle.rt_nodes.specs.declared.brick.ModuleParts.{ModuleParts}
-use Rattle.rt_nodes.specs.declared.brick.ProcBody.{ProcBody}
+use Rattle.rt_tree_nodes.specs.declared.brick.BrickSort.{BrickSort}
+use Rattle.rt_tree_nodes.specs.declared.brick.BrickSort.TheVariants as sort
+use Rattle.rt_tree_nodes.specs.declared.brick.ModuleParts.{ModuleParts}
+use Rattle.rt_tree_nodes.specs.declared.brick.ProcBody.{ProcBody}
 use Rattle.rt_tree.specs.Depth.{sequence_depth, local_words}
-use Rattle.rt_nodes.specs.Scopes.{scope_of, with_locals}
-use Rattle.rt_nodes.specs.Scopes.{with}
+use Rattle.rt_tree_nodes.specs.Scopes.{scope_of, with_locals}
+use Rattle.rt_tree_nodes.specs.Scopes.{with}
 use Rattle.rt_tree.specs.Within.{tree_of, parameters_of}
 use Rattle.rt_frames.specs.declared.frame.Frame.{Frame}
 use Rattle.rt_frames.specs.Points.{body_points}

@@ -2,11 +2,11 @@
 use Rattle.std.specs.Prelude.{◌≡◌, ℕ, ◌+◌, ◌++◌, max, if◌then◌else◌, Bool, true, false, ◌&&◌, ◌||◌, List, [], ◌∷◌, Option, Some, None}
 use Rattle.rt_modes.specs.declared.mode.Mode.{Mode, out-Mode}
 use Rattle.rt_modes.specs.declared.mode.Mode.TheOpen.{Mode-F}
-use Rattle.rt_nodes.specs.Code.{mode_found, place_found}
+use Rattle.rt_tree_nodes.specs.Code.{mode_found, place_found}
 use Rattle.rt_tree.specs.Depth.{depth, address_depth, arguments_depth, above, behind}
-use Rattle.rt_nodes.specs.Scopes.{with, passes, same}
-use Rattle.rt_nodes.specs.Tree.{Terms}
-use Rattle.rt_nodes.specs.Typing.{Signature, call_mode, is_byte, is_small, Found, Shared, Private, Row, Placed, Valued, Spot, OnLocal, OnPath, OnRow, is_int}
+use Rattle.rt_tree_nodes.specs.Scopes.{with, passes, same}
+use Rattle.rt_tree_nodes.specs.Tree.{Terms}
+use Rattle.rt_tree_nodes.specs.Typing.{Signature, call_mode, is_byte, is_small, Found, Shared, Private, Row, Placed, Valued, Spot, OnLocal, OnPath, OnRow, is_int}
 use Rattle.rt_frames.specs.declared.measure.Address.{Address}
 use Rattle.rt_frames.specs.declared.measure.Address.TheVariants as address
 use Rattle.rt_frames.specs.declared.measure.Measured.{Measured}

@@ -3,23 +3,23 @@
 -- that wait below it.
 use Rattle.std.specs.Prelude.{ℕ, zero, suc, ◌+◌, Bool, true, false, ◌&&◌, not, ◌==◌, if◌then◌else◌, List, [], ◌∷◌, ◌++◌, length, map, Option, Some, None, option_map}
 use Rattle.rt_modes.specs.declared.mode.Mode.{Mode}
-use Rattle.rt_nodes.specs.declared.operators.Op2.{Op2}
-use Rattle.rt_nodes.specs.declared.operators.Op2.TheVariants as two
-use Rattle.rt_nodes.specs.declared.statement.Body.{Body}
-use Rattle.rt_nodes.specs.declared.statement.Stat.TheFolds.{fold-Body}
-use Rattle.rt_nodes.specs.declared.statement.Stat.TheOpen.{Stat-F, Body-F, Branch-F, Labelled-F}
-use Rattle.rt_nodes.specs.declared.statement.LocalStart.{LocalStart}
-use Rattle.rt_nodes.specs.declared.statement.Test.{Test}
-use Rattle.rt_nodes.specs.declared.statement.Test.TheFolds.{fold-Test}
-use Rattle.rt_nodes.specs.declared.statement.Test.TheOpen.{Test-F}
-use Rattle.rt_nodes.specs.declared.value.Callee.{Callee}
-use Rattle.rt_nodes.specs.declared.value.Callee.TheFolds.{fold-Callee, fold-Place, fold-Value}
-use Rattle.rt_nodes.specs.declared.value.Callee.TheOpen.{Callee-F, Place-F, Value-F}
-use Rattle.rt_nodes.specs.declared.value.Place.{Place}
-use Rattle.rt_nodes.specs.declared.value.Value.{Value}
+use Rattle.rt_tree_nodes.specs.declared.operators.Op2.{Op2}
+use Rattle.rt_tree_nodes.specs.declared.operators.Op2.TheVariants as two
+use Rattle.rt_tree_nodes.specs.declared.statement.Body.{Body}
+use Rattle.rt_tree_nodes.specs.declared.statement.Stat.TheFolds.{fold-Body}
+use Rattle.rt_tree_nodes.specs.declared.statement.Stat.TheOpen.{Stat-F, Body-F, Branch-F, Labelled-F}
+use Rattle.rt_tree_nodes.specs.declared.statement.LocalStart.{LocalStart}
+use Rattle.rt_tree_nodes.specs.declared.statement.Test.{Test}
+use Rattle.rt_tree_nodes.specs.declared.statement.Test.TheFolds.{fold-Test}
+use Rattle.rt_tree_nodes.specs.declared.statement.Test.TheOpen.{Test-F}
+use Rattle.rt_tree_nodes.specs.declared.value.Callee.{Callee}
+use Rattle.rt_tree_nodes.specs.declared.value.Callee.TheFolds.{fold-Callee, fold-Place, fold-Value}
+use Rattle.rt_tree_nodes.specs.declared.value.Callee.TheOpen.{Callee-F, Place-F, Value-F}
+use Rattle.rt_tree_nodes.specs.declared.value.Place.{Place}
+use Rattle.rt_tree_nodes.specs.declared.value.Value.{Value}
 use Rattle.rt_tree.specs.Depth.{address_depth}
-use Rattle.rt_nodes.specs.Scopes.{passes, Scope}
-use Rattle.rt_nodes.specs.Typing.{Placed, Valued, Called, Spot, OnLocal, OnPath, OnRow, one_place, one_value, one_callee}
+use Rattle.rt_tree_nodes.specs.Scopes.{passes, Scope}
+use Rattle.rt_tree_nodes.specs.Typing.{Placed, Valued, Called, Spot, OnLocal, OnPath, OnRow, one_place, one_value, one_callee}
 use Rattle.rt_frames.specs.declared.frame.CallPoint.{CallPoint}
 use Rattle.rt_frames.specs.declared.frame.Target.{Target}
 use Rattle.rt_frames.specs.declared.frame.Target.TheVariants as target

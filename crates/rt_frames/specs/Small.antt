@@ -1,7 +1,7 @@
 -- Frames whose numbers have 16 bits: those of the procedures of a module that is within what a procedure may take.
 use Rattle.std.specs.Prelude.{◌≡◌, ℕ, ◌<◌, true, Some}
 use Rattle.std.specs.List.{AllByRecursion}
-use Rattle.rt_nodes.specs.declared.brick.ModuleParts.{ModuleParts}
+use Rattle.rt_tree_nodes.specs.declared.brick.ModuleParts.{ModuleParts}
 use Rattle.rt_tree.specs.Modules.{every_node_fits}
 use Rattle.rt_tree.specs.Within.{Within}
 use Rattle.rt_frames.specs.declared.frame.CallPoint.{CallPoint}

@@ -1,20 +1,20 @@
 -- What is taken of the stack, statement by statement: the greatest depth so far, whether the procedure recovers, and the
 -- points so far.
 use Rattle.std.specs.Prelude.{ℕ, true, max, List, [], ◌∷◌, ◌++◌, map, Option, Some, None}
-use Rattle.rt_nodes.specs.declared.statement.Body.{Body}
-use Rattle.rt_nodes.specs.declared.statement.Branch.{Branch}
-use Rattle.rt_nodes.specs.declared.statement.Labelled.{Labelled}
-use Rattle.rt_nodes.specs.declared.statement.LocalStart.{LocalStart}
-use Rattle.rt_nodes.specs.declared.statement.Stat.{Stat}
-use Rattle.rt_nodes.specs.declared.statement.Stat.TheFolds.{fold-Stat, fold-Body, fold-Branch, fold-Labelled}
-use Rattle.rt_nodes.specs.declared.statement.Stat.TheOpen.{Stat-F, Body-F, Branch-F, Labelled-F}
-use Rattle.rt_nodes.specs.declared.statement.Test.{Test}
-use Rattle.rt_nodes.specs.declared.statement.Test.TheFolds.{fold-Test}
-use Rattle.rt_nodes.specs.declared.statement.Test.TheOpen.{Test-F}
-use Rattle.rt_nodes.specs.declared.value.Place.{Place}
-use Rattle.rt_nodes.specs.declared.value.Value.{Value}
+use Rattle.rt_tree_nodes.specs.declared.statement.Body.{Body}
+use Rattle.rt_tree_nodes.specs.declared.statement.Branch.{Branch}
+use Rattle.rt_tree_nodes.specs.declared.statement.Labelled.{Labelled}
+use Rattle.rt_tree_nodes.specs.declared.statement.LocalStart.{LocalStart}
+use Rattle.rt_tree_nodes.specs.declared.statement.Stat.{Stat}
+use Rattle.rt_tree_nodes.specs.declared.statement.Stat.TheFolds.{fold-Stat, fold-Body, fold-Branch, fold-Labelled}
+use Rattle.rt_tree_nodes.specs.declared.statement.Stat.TheOpen.{Stat-F, Body-F, Branch-F, Labelled-F}
+use Rattle.rt_tree_nodes.specs.declared.statement.Test.{Test}
+use Rattle.rt_tree_nodes.specs.declared.statement.Test.TheFolds.{fold-Test}
+use Rattle.rt_tree_nodes.specs.declared.statement.Test.TheOpen.{Test-F}
+use Rattle.rt_tree_nodes.specs.declared.value.Place.{Place}
+use Rattle.rt_tree_nodes.specs.declared.value.Value.{Value}
 use Rattle.rt_tree.specs.Depth.{depth, above, behind}
-use Rattle.rt_nodes.specs.Scopes.{Scope}
+use Rattle.rt_tree_nodes.specs.Scopes.{Scope}
 use Rattle.rt_frames.specs.declared.frame.CallPoint.{CallPoint}
 use Rattle.rt_frames.specs.declared.measure.Address.{Address}
 use Rattle.rt_frames.specs.declared.measure.Address.TheVariants as address

@@ -1,7 +1,7 @@
 //! What statements take, and the frame of a procedure.
 
 ghost use Rattle.std.specs.Prelude.{◌≡◌, IfOk, OnOk, map};
-ghost use Rattle.rt_nodes.specs.Code as seen;
+ghost use Rattle.rt_tree_nodes.specs.Code as seen;
 ghost use Rattle.rt_frames.specs.Walks as spec;
 
 use crate::frame::CallPoint;

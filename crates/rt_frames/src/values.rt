@@ -1,10 +1,10 @@
 //! The points and depths of places and values.
 
 ghost use Rattle.std.specs.Prelude.{◌≡◌, ◌++◌, ◌+◌, ◌&&◌, List, IfOk, OnOk, map, length, option_map, None};
-ghost use Rattle.rt_nodes.specs.Code as seen;
+ghost use Rattle.rt_tree_nodes.specs.Code as seen;
 ghost use Rattle.rt_tree.specs.Depth as depths;
-ghost use Rattle.rt_nodes.specs.Scopes.{with};
-ghost use Rattle.rt_nodes.specs.Typing as typing;
+ghost use Rattle.rt_tree_nodes.specs.Scopes.{with};
+ghost use Rattle.rt_tree_nodes.specs.Typing as typing;
 ghost use Rattle.rt_frames.specs.declared.frame.CallPoint.{CallPoint};
 ghost use Rattle.rt_frames.specs.declared.frame.Target.TheVariants as target;
 ghost use Rattle.rt_frames.specs.Measures as measures;

@@ -19,6 +19,3 @@ pub use tokens::{
     after_mark, after_word, at_of, found_in, ident, label, label_comes, mark_comes, name,
     name_comes, next_of, number, open_mark, open_word, text, word_comes,
 };
-
-#[cfg(test)]
-mod tests;

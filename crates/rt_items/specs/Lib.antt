@@ -4,3 +4,4 @@ pub mod Lets
 pub mod Reading
 pub mod Ropes
 pub mod Table
+pub mod Ranges

@@ -1,6 +1,6 @@
 -- A return to the caller.
 use Rattle.std.proofs.Common.{◌≡◌, ℕ, List, [], ◌∷◌, Option, Some, None, slice_get, refl, ◌∙◌}
-use Rattle.rt_nodes.specs.declared.store.Datum.{Datum}
+use Rattle.rt_tree_nodes.specs.declared.store.Datum.{Datum}
 use Rattle.rt_meaning.specs.declared.system.Act.{Act as ActNode}
 use Rattle.rt_meaning.specs.declared.system.Task.{Task as TaskNode}
 use Rattle.rt_work.specs.Nodes.{items}

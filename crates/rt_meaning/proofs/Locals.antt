@@ -1,7 +1,7 @@
 -- The locals of an activation, filled up one by one.
 use Rattle.std.proofs.Common.{◌≡◌, ℕ, ◌-◌, ◌<◌, suc, List, [], ◌∷◌, ◌++◌, length, refl, arith, append_assoc, length-append}
-use Rattle.rt_nodes.specs.declared.store.Datum.{Datum}
-use Rattle.rt_nodes.specs.declared.store.Datum.TheVariants.{Word}
+use Rattle.rt_tree_nodes.specs.declared.store.Datum.{Datum}
+use Rattle.rt_tree_nodes.specs.declared.store.Datum.TheVariants.{Word}
 use Rattle.rt_meaning.specs.Step.{locals_of}
 
 pub locals_more : (ls : List Datum) (size : ℕ) → length ls < size → locals_of (ls ++ Word 0 ∷ []) size ≡ locals_of ls size

@@ -1,8 +1,8 @@
 -- Each visible step looks at the store at one location and leaves it, or changes it at one and doesn't look at it.
 use Rattle.std.proofs.Common.{◌≡◌, ◌≢◌, List, [], ◌∷◌, refl, ap, inl, inr}
-use Rattle.rt_nodes.specs.declared.store.Datum.{Datum}
-use Rattle.rt_nodes.specs.declared.step.Step.{Step}
-use Rattle.rt_nodes.specs.declared.step.Step.TheVariants as step
+use Rattle.rt_tree_nodes.specs.declared.store.Datum.{Datum}
+use Rattle.rt_tree_nodes.specs.declared.step.Step.{Step}
+use Rattle.rt_tree_nodes.specs.declared.step.Step.TheVariants as step
 use Rattle.rt_rules.specs.declared.service.Outcome.{Outcome}
 use Rattle.rt_work.specs.Stores.{Store, erp}
 use Rattle.rt_work.specs.Task.{Next, Reads, Writes, Calls, Returns, Jumps, Leaps, Asks, Recovers, Errors, Lacks}

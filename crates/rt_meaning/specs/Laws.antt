@@ -1,8 +1,8 @@
 -- What holds of every visible step, whatever the modules, the task and the store are.
 use Rattle.std.specs.Prelude.{◌≡◌, ◌≢◌, ◌⊎◌, ℕ, ◌<◌, List, [], Option}
-use Rattle.rt_nodes.specs.declared.store.Datum.{Datum}
-use Rattle.rt_nodes.specs.declared.store.Location.{Location}
-use Rattle.rt_nodes.specs.declared.step.Step.TheVariants as step
+use Rattle.rt_tree_nodes.specs.declared.store.Datum.{Datum}
+use Rattle.rt_tree_nodes.specs.declared.store.Location.{Location}
+use Rattle.rt_tree_nodes.specs.declared.step.Step.TheVariants as step
 use Rattle.rt_rules.specs.declared.service.Outcome.{Outcome}
 use Rattle.rt_rules.specs.Roster.{Roster}
 use Rattle.rt_work.specs.Stores.{Store, read, write}

@@ -6,3 +6,4 @@ pub mod Source
 pub mod Roots
 pub mod Laws
 pub mod Whole
+pub mod Answers

@@ -1,6 +1,6 @@
 -- The tasks of a system: their roots and their priorities.
 use Rattle.std.specs.Prelude.{ℕ, List, map}
-use Rattle.rt_nodes.specs.declared.store.Proc.{Proc}
+use Rattle.rt_tree_nodes.specs.declared.store.Proc.{Proc}
 use Rattle.rt_meaning.specs.declared.begin.SourceTask.{SourceTask}
 
 abbrev pub root_of : SourceTask → Proc

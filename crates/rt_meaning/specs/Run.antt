@@ -1,6 +1,6 @@
 -- The steps and ticks of a source run: the tasks over one store, by the supervisor's rules.
 use Rattle.std.specs.Prelude.{ℕ, ◌+◌, ◌-◌, ◌^◌, min, List, map, Option, Some, None, slice_get, slice_set}
-use Rattle.rt_nodes.specs.declared.step.Step.{Step}
+use Rattle.rt_tree_nodes.specs.declared.step.Step.{Step}
 use Rattle.rt_rules.specs.declared.service.Svc.TheVariants as svc
 use Rattle.rt_rules.specs.declared.service.Outcome.{Outcome}
 use Rattle.rt_rules.specs.declared.service.Outcome.TheVariants.{Go, Waits, Error, Ends}
@@ -8,7 +8,7 @@ use Rattle.rt_rules.specs.Rules as rules
 use Rattle.rt_rules.specs.Roster.{Roster}
 use Rattle.rt_work.specs.declared.request.Request.{Request}
 use Rattle.rt_work.specs.declared.request.Request.TheVariants.{Nothing, Takes, Puts, Rules}
-use Rattle.rt_nodes.specs.declared.store.Proc.{Proc}
+use Rattle.rt_tree_nodes.specs.declared.store.Proc.{Proc}
 use Rattle.rt_work.specs.Stores.{Store, first_own}
 use Rattle.rt_resolve.specs.World.{World}
 use Rattle.rt_meaning.specs.Step.{Task, Over, After, request, task_step, about_to}

@@ -1,13 +1,13 @@
 -- What the code keeps of a system and of its tasks, as plain data.
 use Rattle.std.specs.Prelude.{◌≡◌, ℕ, Bool, true, false, List, [], ◌∷◌, map, slice_get, Option, Some, None}
-use Rattle.rt_nodes.specs.declared.store.Proc.{Proc}
-use Rattle.rt_nodes.specs.declared.store.Datum.{Datum}
+use Rattle.rt_tree_nodes.specs.declared.store.Proc.{Proc}
+use Rattle.rt_tree_nodes.specs.declared.store.Datum.{Datum}
 use Rattle.rt_rules.specs.declared.service.Svc.{Svc}
 use Rattle.rt_rules.specs.declared.service.Outcome.{Outcome}
 use Rattle.rt_rules.specs.declared.service.Outcome.TheVariants.{Go, Error}
 use Rattle.rt_work.specs.declared.request.Request.{Request}
 use Rattle.rt_work.specs.declared.request.Request.TheVariants.{Rules}
-use Rattle.rt_nodes.specs.declared.step.Step.TheVariants as step
+use Rattle.rt_tree_nodes.specs.declared.step.Step.TheVariants as step
 use Rattle.rt_work.specs.declared.scene.Scene.{Scene}
 use Rattle.rt_work.specs.declared.scene.Next.{Next as NextNode}
 use Rattle.rt_resolve.specs.declared.code.ModuleCode.{ModuleCode}
@@ -22,7 +22,7 @@ use Rattle.rt_work.specs.Task.{Env, Item, Next}
 use Rattle.rt_meaning.specs.declared.common.Common.{Common}
 use Rattle.rt_meaning.specs.Step.{Act, Task, Over, Failed, Doing, with_todo, asked, answers, served, act as step_of}
 use Rattle.rt_meaning.specs.Run.{Served, Moved, moved_by, serve}
-use Rattle.rt_nodes.specs.declared.step.Step.{Step}
+use Rattle.rt_tree_nodes.specs.declared.step.Step.{Step}
 
 -- ---- the tasks
 

@@ -4,11 +4,11 @@
 -- comes of a service, and has no effect where the step is none. It gives the task, the store and the step. At most one
 -- location is read or written.
 use Rattle.std.specs.Prelude.{ℕ, ◌-◌, Bool, true, false, List, [], ◌∷◌, ◌++◌, Option, Some, None, length, replicate}
-use Rattle.rt_nodes.specs.declared.store.Proc.{Proc}
-use Rattle.rt_nodes.specs.declared.store.Datum.{Datum}
-use Rattle.rt_nodes.specs.declared.store.Datum.TheVariants.{Word, Reference}
-use Rattle.rt_nodes.specs.declared.step.Step.{Step}
-use Rattle.rt_nodes.specs.declared.step.Step.TheVariants as step
+use Rattle.rt_tree_nodes.specs.declared.store.Proc.{Proc}
+use Rattle.rt_tree_nodes.specs.declared.store.Datum.{Datum}
+use Rattle.rt_tree_nodes.specs.declared.store.Datum.TheVariants.{Word, Reference}
+use Rattle.rt_tree_nodes.specs.declared.step.Step.{Step}
+use Rattle.rt_tree_nodes.specs.declared.step.Step.TheVariants as step
 use Rattle.rt_rules.specs.declared.service.Svc.TheVariants as svc
 use Rattle.rt_rules.specs.declared.service.Outcome.{Outcome}
 use Rattle.rt_rules.specs.declared.service.Outcome.TheVariants.{Go, Waits, Error, Ends}

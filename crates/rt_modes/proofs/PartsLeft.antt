@@ -5,7 +5,8 @@ use Rattle.rt_modes.specs.declared.mode.Mode.{Mode}
 use Rattle.rt_modes.specs.declared.mode.Mode.TheVariants as mode
 use Rattle.rt_modes.specs.declared.spell.Part.{Part}
 use Rattle.rt_modes.specs.Parts.{parts_after, part_spelling, parts_spelling, Adds}
-use Rattle.rt_modes.specs.Spelling.{spelling, word_bytes}
+use Rattle.rt_modes.specs.Spelling.{spelling}
+use Rattle.rt_words.specs.Bytes.{word_bytes}
 use Rattle.rt_modes.proofs.Modes.{out_label, out_record, out_ref, out_ref_array, out_array, out_proc}
 use Rattle.rt_modes.proofs.Spelled.{spelled_label, spelled_record, spelled_ref, spelled_ref_array, spelled_array, spelled_proc}
 

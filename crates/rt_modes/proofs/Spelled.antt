@@ -17,7 +17,8 @@ use Rattle.rt_modes.specs.declared.mode.Mode.TheVariants.{rolls-Byte, rolls-Int,
 use Rattle.rt_modes.specs.FullMode.{joined}
 use Rattle.rt_modes.proofs.Modes.{out_byte, out_int, out_frac, out_label, out_record, out_ref, out_ref_array, out_array, out_proc}
 use Rattle.rt_modes.specs.Fields.{Format, word, times, or_zero}
-use Rattle.rt_modes.specs.Spelling.{MayStand, mode_format, mode_of, inside, StandsInside, OneMayStand, IsLength, behind, where_true, where_may, is_alone, is_not_passed, spelling, code_of, code_at, may_stand, result_spelling, word_bytes}
+use Rattle.rt_modes.specs.Spelling.{MayStand, mode_format, mode_of, inside, StandsInside, OneMayStand, IsLength, behind, where_true, where_may, is_alone, is_not_passed, spelling, code_of, code_at, may_stand, result_spelling}
+use Rattle.rt_words.specs.Bytes.{word_bytes}
 
 abbrev code_byte : Code → ℕ
 code_byte code.Byte = 1

@@ -5,3 +5,4 @@ pub mod Left
 pub mod Parts
 pub mod Reading
 pub mod Spelling
+pub mod ModeWords

@@ -1,5 +1,5 @@
 -- The spelling of a mode in an object, where a mode may stand, and the first field that is no mode's.
-use Rattle.std.specs.Prelude.{◌≡◌, ℕ, zero, suc, ◌-◌, ◌/◌, ◌%◌, ◌<◌, ◌≤◌, ◌==◌, Bool, true, false, ◌&&◌, nat_lt, nat_le, if◌then◌else◌, List, [], ◌∷◌, ◌++◌, length, drop, Option, Some, None, IfSome}
+use Rattle.std.specs.Prelude.{◌≡◌, ℕ, zero, suc, ◌-◌, ◌%◌, ◌<◌, ◌≤◌, ◌==◌, Bool, true, false, ◌&&◌, nat_lt, nat_le, if◌then◌else◌, List, [], ◌∷◌, ◌++◌, length, drop, Option, Some, None, IfSome}
 use Rattle.std.specs.List.{AllByRecursion}
 use Rattle.rt_modes.specs.declared.code.Code.{Code}
 use Rattle.rt_modes.specs.declared.code.Code.TheVariants as code
@@ -13,12 +13,9 @@ use Rattle.rt_modes.specs.declared.mode.Mode.TheFolds.{fold-Mode}
 use Rattle.rt_modes.specs.declared.mode.Mode.TheVariants as mode
 use Rattle.rt_modes.specs.FullMode.{joined}
 use Rattle.rt_modes.specs.Fields.{Format, nothing, never, byte, word, ◌>>=◌, times, or_zero}
+use Rattle.rt_words.specs.Bytes.{word_bytes}
 
 -- ---- the spelling
-
--- a word, the low byte first
-abbrev pub word_bytes : ℕ → List ℕ
-word_bytes w = w % 256 ∷ w / 256 ∷ []
 
 -- a result, or 0 where there is none
 abbrev pub result_spelling : Option (List ℕ) → List ℕ

@@ -10,8 +10,6 @@ mod pieces;
 mod read;
 mod same;
 mod spell;
-#[cfg(test)]
-mod tests;
 mod write;
 
 pub use fault::ModeFault;

@@ -3,7 +3,8 @@
 ghost use Rattle.std.specs.Prelude.{◌≡◌, ◌∷◌, ◌++◌, OnOk, OnErr};
 ghost use Rattle.rt_modes.specs.Left.{Grew};
 ghost use Rattle.rt_modes.specs.Parts.{Adds, parts_after, part_spelling};
-ghost use Rattle.rt_modes.specs.Spelling.{spelling, word_bytes};
+ghost use Rattle.rt_modes.specs.Spelling.{spelling};
+ghost use Rattle.rt_words.specs.Bytes.{word_bytes};
 
 use crate::mode::Mode;
 use byteorder::{ByteOrder, LittleEndian};

@@ -1,19 +1,19 @@
 -- Rows that are put together from the right, taken apart at their ends.
-use Rattle.std.proofs.Common.{◌≡◌, ℕ, suc, ◌<◌, ◌≤◌, List, [], ◌∷◌, ◌++◌, map, length, Option, Some, None, option_map, refl, sym, ap, ◌∙◌, arith}
-use Rattle.rt_nodes.specs.declared.statement.LocalStart.{LocalStart}
-use Rattle.rt_nodes.specs.declared.statement.Labelled.{Labelled, out-Labelled}
-use Rattle.rt_nodes.specs.declared.statement.Stat.{Stat}
-use Rattle.rt_nodes.specs.declared.statement.Stat.TheFolds.{fold_out-Labelled}
-use Rattle.rt_nodes.specs.declared.statement.Test.{Test, out-Test}
-use Rattle.rt_nodes.specs.declared.statement.Test as test_tests
-use Rattle.rt_nodes.specs.declared.statement.Test.TheFolds.{fold_out-Test}
-use Rattle.rt_nodes.specs.declared.statement.Test.TheOpen.{Test-F}
-use Rattle.rt_nodes.specs.declared.statement.Test.TheVariants as tests
-use Rattle.rt_nodes.specs.declared.value.Value.{Value}
-use Rattle.rt_nodes.specs.Scopes.{Scope}
-use Rattle.rt_tree.specs.Statements.{Tested, joined_by, labelled_tree, marks, sequence_tree, if_tree, branches_tree, starts_tree, tested}
-use Rattle.rt_nodes.specs.Tree.{Terms, NoTerm, MoreTerms, Cond, Both, Either, Stmt, Seq, Done, Then, Mark, If}
-use Rattle.rt_nodes.specs.Typing.{terms_of, valued}
+use Rattle.std.proofs.Common.{◌≡◌, ℕ, ◌<◌, List, [], ◌∷◌, ◌++◌, map, length, Option, Some, None, option_map, refl, sym, ap, ◌∙◌, arith}
+use Rattle.rt_tree_nodes.specs.declared.statement.LocalStart.{LocalStart}
+use Rattle.rt_tree_nodes.specs.declared.statement.Labelled.{Labelled, out-Labelled}
+use Rattle.rt_tree_nodes.specs.declared.statement.Stat.{Stat}
+use Rattle.rt_tree_nodes.specs.declared.statement.Stat.TheFolds.{fold_out-Labelled}
+use Rattle.rt_tree_nodes.specs.declared.statement.Test.{Test, out-Test}
+use Rattle.rt_tree_nodes.specs.declared.statement.Test as test_tests
+use Rattle.rt_tree_nodes.specs.declared.statement.Test.TheFolds.{fold_out-Test}
+use Rattle.rt_tree_nodes.specs.declared.statement.Test.TheOpen.{Test-F}
+use Rattle.rt_tree_nodes.specs.declared.statement.Test.TheVariants as tests
+use Rattle.rt_tree_nodes.specs.declared.value.Value.{Value}
+use Rattle.rt_tree_nodes.specs.Scopes.{Scope}
+use Rattle.rt_tree.specs.Statements.{joined_by, labelled_tree, marks, sequence_tree, if_tree, branches_tree, starts_tree, tested}
+use Rattle.rt_tree_nodes.specs.Tree.{NoTerm, MoreTerms, Cond, Both, Either, Seq, Done, Then, Mark}
+use Rattle.rt_tree_nodes.specs.Typing.{terms_of, valued}
 use Rattle.rt_resolve.specs.declared.join.Joins.{Joins}
 use Rattle.rt_resolve.specs.declared.join.Joins.TheVariants as joins
 use Rattle.rt_resolve.specs.Trees.{build, joining, joined_tests, after_row, after_branch, value_tree, test_tree, start_statement, stat, row_tree, line_tree}

@@ -2,9 +2,9 @@
 use Rattle.std.proofs.Common.{◌≡◌, ℕ, zero, suc, List, [], ◌∷◌, map, slice_get, Option, Some, None, true, false, Bool, ◌&&◌, refl, ap, subst, ◌∙◌}
 use Rattle.std.proofs.Math.Path.{fun_ext}
 use Rattle.std.specs.List.{list_all}
-use Rattle.rt_nodes.specs.declared.brick.ModuleParts.{ModuleParts}
+use Rattle.rt_tree_nodes.specs.declared.brick.ModuleParts.{ModuleParts}
 use Rattle.rt_tree.specs.Modules.{every_node_fits, is_short}
-use Rattle.rt_nodes.specs.declared.store.Proc.{Proc}
+use Rattle.rt_tree_nodes.specs.declared.store.Proc.{Proc}
 use Rattle.rt_resolve.specs.declared.code.Code.{Code as CodeNode}
 use Rattle.rt_resolve.specs.declared.code.ModuleCode.{ModuleCode}
 use Rattle.rt_work.specs.Stores.{numbered}

@@ -3,3 +3,4 @@ pub mod Trees
 pub mod Starting
 pub mod Systems
 pub mod World
+pub mod Matching

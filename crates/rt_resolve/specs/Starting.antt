@@ -4,25 +4,25 @@ use Rattle.rt_modes.specs.declared.mode.Field.{Field}
 use Rattle.rt_modes.specs.declared.mode.Mode.{Mode, out-Mode}
 use Rattle.rt_modes.specs.declared.mode.Mode.TheOpen.{Mode-F}
 use Rattle.rt_modes.specs.declared.mode.RecordDef.{RecordDef}
-use Rattle.rt_nodes.specs.declared.brick.Brick.{Brick}
-use Rattle.rt_nodes.specs.declared.brick.BrickSort.{BrickSort}
-use Rattle.rt_nodes.specs.declared.brick.BrickSort.TheVariants as sort
-use Rattle.rt_nodes.specs.declared.brick.DataStart.{DataStart}
-use Rattle.rt_nodes.specs.declared.brick.DataStart.TheFolds.{fold-DataStart}
-use Rattle.rt_nodes.specs.declared.brick.DataStart.TheOpen.{DataStart-F}
-use Rattle.rt_nodes.specs.declared.brick.ModuleParts.{ModuleParts}
-use Rattle.rt_nodes.specs.declared.store.Proc.{Proc}
-use Rattle.rt_nodes.specs.declared.store.Origin.TheVariants as origin
-use Rattle.rt_nodes.specs.declared.store.Location.{Location}
-use Rattle.rt_nodes.specs.declared.store.Location.TheVariants.{Shared}
-use Rattle.rt_nodes.specs.declared.store.Datum.{Datum}
-use Rattle.rt_nodes.specs.declared.store.Datum.TheVariants.{Word, Reference, Row, Procedure}
-use Rattle.rt_nodes.specs.declared.store.Contents.{Contents}
-use Rattle.rt_nodes.specs.declared.store.Contents.TheVariants as contents
+use Rattle.rt_tree_nodes.specs.declared.brick.Brick.{Brick}
+use Rattle.rt_tree_nodes.specs.declared.brick.BrickSort.{BrickSort}
+use Rattle.rt_tree_nodes.specs.declared.brick.BrickSort.TheVariants as sort
+use Rattle.rt_tree_nodes.specs.declared.brick.DataStart.{DataStart}
+use Rattle.rt_tree_nodes.specs.declared.brick.DataStart.TheFolds.{fold-DataStart}
+use Rattle.rt_tree_nodes.specs.declared.brick.DataStart.TheOpen.{DataStart-F}
+use Rattle.rt_tree_nodes.specs.declared.brick.ModuleParts.{ModuleParts}
+use Rattle.rt_tree_nodes.specs.declared.store.Proc.{Proc}
+use Rattle.rt_tree_nodes.specs.declared.store.Origin.TheVariants as origin
+use Rattle.rt_tree_nodes.specs.declared.store.Location.{Location}
+use Rattle.rt_tree_nodes.specs.declared.store.Location.TheVariants.{Shared}
+use Rattle.rt_tree_nodes.specs.declared.store.Datum.{Datum}
+use Rattle.rt_tree_nodes.specs.declared.store.Datum.TheVariants.{Word, Reference, Row, Procedure}
+use Rattle.rt_tree_nodes.specs.declared.store.Contents.{Contents}
+use Rattle.rt_tree_nodes.specs.declared.store.Contents.TheVariants as contents
 use Rattle.rt_tree.specs.Modules.{is_here, shared_mode}
-use Rattle.rt_nodes.specs.Scopes.{scope_of}
-use Rattle.rt_nodes.specs.Scopes.{Scope}
-use Rattle.rt_nodes.specs.Code.{scope}
+use Rattle.rt_tree_nodes.specs.Scopes.{scope_of}
+use Rattle.rt_tree_nodes.specs.Scopes.{Scope}
+use Rattle.rt_tree_nodes.specs.Code.{scope}
 use Rattle.rt_resolve.specs.declared.starting.Home.{Home as HomeNode}
 use Rattle.rt_work.specs.declared.store.ModuleStore.{ModuleStore}
 use Rattle.rt_work.specs.Stores.{Store}

@@ -1,13 +1,12 @@
 -- What a system of modules is for the meaning: for each module where its numbers lead, and the trees of its procedures.
 use Rattle.std.specs.Prelude.{ℕ, suc, ◌≤◌, ◌<◌, List, [], ◌∷◌, length, map, slice_get, Option, Some, None}
-use Rattle.rt_nodes.specs.declared.brick.Brick.{Brick}
-use Rattle.rt_nodes.specs.declared.brick.BrickSort.{BrickSort}
-use Rattle.rt_nodes.specs.declared.brick.BrickSort.TheVariants as sort
-use Rattle.rt_nodes.specs.declared.brick.ModuleParts.{ModuleParts}
-use Rattle.rt_nodes.specs.declared.brick.ProcBody.{ProcBody}
-use Rattle.rt_nodes.specs.declared.store.Proc.{Proc}
-use Rattle.rt_nodes.specs.Scopes.{scope_of, with_locals}
-use Rattle.rt_nodes.specs.Scopes.{Scope}
+use Rattle.rt_tree_nodes.specs.declared.brick.Brick.{Brick}
+use Rattle.rt_tree_nodes.specs.declared.brick.BrickSort.{BrickSort}
+use Rattle.rt_tree_nodes.specs.declared.brick.BrickSort.TheVariants as sort
+use Rattle.rt_tree_nodes.specs.declared.brick.ModuleParts.{ModuleParts}
+use Rattle.rt_tree_nodes.specs.declared.brick.ProcBody.{ProcBody}
+use Rattle.rt_tree_nodes.specs.Scopes.{scope_of, with_locals}
+use Rattle.rt_tree_nodes.specs.Scopes.{Scope}
 use Rattle.rt_tree.specs.Statements.{body_tree}
 use Rattle.rt_resolve.specs.declared.code.Code.{Code as CodeNode}
 use Rattle.rt_resolve.specs.declared.code.ModuleCode.{ModuleCode}

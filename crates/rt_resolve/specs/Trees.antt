@@ -1,19 +1,19 @@
 -- The trees that are made of the nodes of a module, and how their parts are joined from the right.
 use Rattle.std.specs.Prelude.{ℕ, List, [], ◌∷◌, Option, option_map}
-use Rattle.rt_nodes.specs.declared.statement.Branch.{Branch}
-use Rattle.rt_nodes.specs.declared.statement.Labelled.{Labelled, out-Labelled}
-use Rattle.rt_nodes.specs.declared.statement.LocalStart.{LocalStart}
-use Rattle.rt_nodes.specs.declared.statement.Stat.{Stat}
-use Rattle.rt_nodes.specs.declared.statement.Stat.TheFolds.{fold-Stat, fold-Branch, fold-Labelled}
-use Rattle.rt_nodes.specs.declared.operators.Rel.{Rel}
-use Rattle.rt_nodes.specs.declared.operators.Rel.TheVariants as rel
-use Rattle.rt_nodes.specs.declared.statement.Test.{Test}
-use Rattle.rt_nodes.specs.declared.value.Value.{Value}
-use Rattle.rt_nodes.specs.Scopes.{Scope}
+use Rattle.rt_tree_nodes.specs.declared.statement.Branch.{Branch}
+use Rattle.rt_tree_nodes.specs.declared.statement.Labelled.{Labelled, out-Labelled}
+use Rattle.rt_tree_nodes.specs.declared.statement.LocalStart.{LocalStart}
+use Rattle.rt_tree_nodes.specs.declared.statement.Stat.{Stat}
+use Rattle.rt_tree_nodes.specs.declared.statement.Stat.TheFolds.{fold-Stat, fold-Branch, fold-Labelled}
+use Rattle.rt_tree_nodes.specs.declared.operators.Rel.{Rel}
+use Rattle.rt_tree_nodes.specs.declared.operators.Rel.TheVariants as rel
+use Rattle.rt_tree_nodes.specs.declared.statement.Test.{Test}
+use Rattle.rt_tree_nodes.specs.declared.value.Value.{Value}
+use Rattle.rt_tree_nodes.specs.Scopes.{Scope}
 use Rattle.rt_tree.specs.Statements.{labelled_tree, sequence_tree, starts_tree, start_tree, stat_tree, tested}
-use Rattle.rt_nodes.specs.Tree.{Term, Num, Cond, Is, Both, Either, Stmt, If, Switch, Seq, Done, Then}
-use Rattle.rt_nodes.specs.Typing.{Spot, OnLocal, OnPath, OnRow, Placed, Valued, valued}
-use Rattle.rt_nodes.specs.Typing as typing
+use Rattle.rt_tree_nodes.specs.Tree.{Term, Num, Cond, Is, Both, Either, Stmt, If, Switch, Seq, Done, Then}
+use Rattle.rt_tree_nodes.specs.Typing.{Spot, OnLocal, OnPath, OnRow, Placed, Valued, valued}
+use Rattle.rt_tree_nodes.specs.Typing as typing
 use Rattle.rt_work.specs.Nodes as n
 use Rattle.rt_resolve.specs.declared.join.Joins.{Joins}
 use Rattle.rt_resolve.specs.declared.join.Joins.TheVariants as joins

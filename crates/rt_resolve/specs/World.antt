@@ -1,7 +1,7 @@
 -- The modules of a system as the meaning reads them: where a module's own numbers lead, and the code of its procedures.
 use Rattle.std.specs.Prelude.{ℕ, List, slice_get, Option, Some, None}
-use Rattle.rt_nodes.specs.declared.store.Proc.{Proc}
-use Rattle.rt_nodes.specs.Tree.{Seq}
+use Rattle.rt_tree_nodes.specs.declared.store.Proc.{Proc}
+use Rattle.rt_tree_nodes.specs.Tree.{Seq}
 use Rattle.rt_resolve.specs.declared.code.Code.{Code as CodeNode}
 use Rattle.rt_resolve.specs.declared.code.ModuleCode.{ModuleCode}
 use Rattle.rt_work.specs.Stores.{numbered}

@@ -2,7 +2,7 @@
 
 ghost use Rattle.std.specs.Prelude.{◌≡◌, IfOk, map};
 ghost use Rattle.rt_tree.specs.Statements as statements;
-ghost use Rattle.rt_nodes.specs.Tree as tree;
+ghost use Rattle.rt_tree_nodes.specs.Tree as tree;
 ghost use Rattle.rt_work.specs.Nodes as n;
 ghost use Rattle.rt_resolve.specs.Trees as trees;
 

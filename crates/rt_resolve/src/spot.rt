@@ -1,10 +1,10 @@
 //! The plain trees of places, from what they stand in.
 
 ghost use Rattle.std.specs.Prelude.{◌≡◌, IfOk};
-ghost use Rattle.rt_nodes.specs.Code as seen;
+ghost use Rattle.rt_tree_nodes.specs.Code as seen;
 ghost use Rattle.rt_tree.specs.Statements as statements;
-ghost use Rattle.rt_nodes.specs.Typing as typing;
-ghost use Rattle.rt_nodes.specs.Tree as tree;
+ghost use Rattle.rt_tree_nodes.specs.Typing as typing;
+ghost use Rattle.rt_tree_nodes.specs.Tree as tree;
 ghost use Rattle.rt_modes.specs.declared.mode.Mode.{out-Mode};
 ghost use Rattle.rt_work.specs.Nodes as n;
 ghost use Rattle.rt_resolve.specs.Trees as trees;

@@ -1,10 +1,11 @@
 //! The plain trees of conditions, statements and bodies.
 
 ghost use Rattle.std.specs.Prelude.{◌≡◌, IfOk, map};
-ghost use Rattle.rt_nodes.specs.Code as seen;
+ghost use Rattle.rt_tree_nodes.specs.Code as seen;
 ghost use Rattle.rt_tree.specs.Statements as statements;
-ghost use Rattle.rt_nodes.specs.Tree as tree;
-ghost use Rattle.rt_nodes.specs.Typing as typing;
+ghost use Rattle.rt_tree_nodes.specs.Tree as tree;
+ghost use Rattle.rt_tree_nodes.specs.Typing as typing;
+ghost use Rattle.rt_tree_nodes.specs.declared.statement.Stat.TheVariants as form;
 ghost use Rattle.rt_work.specs.Nodes as n;
 ghost use Rattle.rt_resolve.specs.Trees as trees;
 
@@ -141,10 +142,7 @@ fn statement(alloc: Global, scope: &Scope<'_>, stat: &Stat) -> Result<StmtNode, 
         Stat::Goto(label) => Ok(StmtNode::Goto(*label)),
         Stat::Return(value) => returned(alloc, scope, value),
         Stat::Switch(value, labels) => switch(alloc, scope, value, labels),
-        Stat::Block(inner) => {
-            let inner = body(alloc, scope, inner)?;
-            Ok(StmtNode::Inner(shared(alloc, inner)?))
-        }
+        Stat::Block(inner) => block(alloc, scope, inner),
         Stat::If(taken, otherwise) => {
             let taken = branches(alloc, scope, taken.as_slice())?;
             match otherwise {
@@ -161,19 +159,50 @@ fn statement(alloc: Global, scope: &Scope<'_>, stat: &Stat) -> Result<StmtNode, 
             for_loop(alloc, head, lines)
         }
         Stat::To(i, turns, lines) => {
-            let turns = term(alloc, scope, turns)?;
-            let turns = shared(alloc, turns)?;
             let lines = sequence(alloc, scope, lines.as_slice())?;
-            Ok(StmtNode::To(*i, turns, shared(alloc, lines)?))
+            to_loop(alloc, scope, *i, turns, lines)
         }
         Stat::While(test, lines) => {
-            let test = cond(alloc, scope, test)?;
-            let test = shared(alloc, test)?;
             let lines = sequence(alloc, scope, lines.as_slice())?;
-            Ok(StmtNode::While(test, shared(alloc, lines)?))
+            while_loop(alloc, scope, test, lines)
         }
         Stat::Recover(label) => Ok(StmtNode::Recover(*label)),
     }
+}
+
+#[cycle(bodies)]
+fn block(alloc: Global, scope: &Scope<'_>, inner: &Body) -> Result<StmtNode, Memory>
+    ensures { IfOk result (λ s. n.stmt s ≡ trees.stat (seen.scope scope.now) (form.Block inner.now)) }
+{
+    let inner = body(alloc, scope, inner)?;
+    Ok(StmtNode::Inner(shared(alloc, inner)?))
+}
+
+fn to_loop(
+    alloc: Global,
+    scope: &Scope<'_>,
+    local: u16,
+    turns: &Value,
+    lines: SeqNode,
+) -> Result<StmtNode, Memory>
+    ensures { IfOk result (λ s. n.stmt s ≡ tree.To local (trees.value_tree (seen.scope scope.now) turns.now) (n.seq lines)) }
+{
+    let turns = term(alloc, scope, turns)?;
+    let turns = shared(alloc, turns)?;
+    Ok(StmtNode::To(local, turns, shared(alloc, lines)?))
+}
+
+fn while_loop(
+    alloc: Global,
+    scope: &Scope<'_>,
+    test: &Test,
+    lines: SeqNode,
+) -> Result<StmtNode, Memory>
+    ensures { IfOk result (λ s. n.stmt s ≡ tree.While (statements.tested (seen.scope scope.now) test.now).tree (n.seq lines)) }
+{
+    let test = cond(alloc, scope, test)?;
+    let test = shared(alloc, test)?;
+    Ok(StmtNode::While(test, shared(alloc, lines)?))
 }
 
 // A call that stands alone; a result is dropped.

@@ -2,7 +2,7 @@
 
 ghost use Rattle.std.specs.Prelude.{◌≡◌, ◌≤◌, true, false, All, Any, IfOk, length, map};
 ghost use Rattle.std.specs.List.{list_all};
-ghost use Rattle.rt_nodes.specs.Code as seen;
+ghost use Rattle.rt_tree_nodes.specs.Code as seen;
 ghost use Rattle.rt_tree.specs.Modules.{is_short};
 ghost use Rattle.rt_resolve.specs.World as world;
 ghost use Rattle.rt_resolve.specs.Starting as starting;

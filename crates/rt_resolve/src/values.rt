@@ -1,8 +1,8 @@
 //! The plain trees of places, values and calls.
 
 ghost use Rattle.std.specs.Prelude.{◌≡◌, IfOk, map};
-ghost use Rattle.rt_nodes.specs.Code as seen;
-ghost use Rattle.rt_nodes.specs.Typing as typing;
+ghost use Rattle.rt_tree_nodes.specs.Code as seen;
+ghost use Rattle.rt_tree_nodes.specs.Typing as typing;
 ghost use Rattle.rt_work.specs.Nodes as n;
 ghost use Rattle.rt_resolve.specs.Trees as trees;
 

@@ -17,6 +17,3 @@ pub use contain::contains_itself;
 pub use fields::{data_size, field_offset, passing_field};
 pub use settle::record_sizes;
 pub use size::Size;
-
-#[cfg(test)]
-mod tests;

@@ -8,7 +8,7 @@ use Rattle.rt_grammar.specs.Parts.{Part}
 use Rattle.rt_grammar.specs.Parsing.{Parser, left}
 use Rattle.rt_grammar.proofs.Tails.{Tail, all, past, Tail-length}
 use Rattle.rt_grammar.proofs.Good.{Good, ok_is}
-use Rattle.rt_expression.specs.declared.limits.Context.{Context}
+use Rattle.rt_syntax_exprs.specs.declared.limits.Context.{Context}
 use Rattle.rt_syntax.specs.declared.tree.Body.{Body}
 use Rattle.rt_syntax.specs.Statements as line
 use Rattle.rt_syntax.specs.StatementParser as reads

@@ -17,18 +17,18 @@ use Rattle.rt_grammar.proofs.Good.{Good, weaken, seq, good_equal, good_nothing, 
 use Rattle.rt_grammar.proofs.OneItem.{good_mark, good_word, good_ident}
 use Rattle.rt_grammar.proofs.Choices.{good_choose, good_optional, good_turns, good_after_mark, good_after_word}
 use Rattle.rt_grammar.proofs.Labels.{good_labelled}
-use Rattle.rt_expression.specs.declared.limits.Context.{Context}
-use Rattle.rt_expression.specs.declared.tree.Chain.{Chain, roll-Chain}
+use Rattle.rt_syntax_exprs.specs.declared.limits.Context.{Context}
+use Rattle.rt_syntax_exprs.specs.declared.tree.Chain.{Chain, roll-Chain}
 use Rattle.rt_syntax.specs.declared.tree.Simple.{Simple}
 use Rattle.rt_syntax.specs.declared.tree.Simple.TheVariants as s
 use Rattle.rt_syntax.specs.declared.tree.Stmt.{Stmt}
-use Rattle.rt_expression.specs.Tables.{begins_expression}
+use Rattle.rt_syntax_exprs.specs.Tables.{begins_expression}
 use Rattle.rt_syntax.specs.Tables.{begins_simple}
-use Rattle.rt_expression.specs.Expressions as expressions
+use Rattle.rt_syntax_exprs.specs.Expressions as expressions
 use Rattle.rt_syntax.specs.Statements as line
 use Rattle.rt_syntax.specs.StatementParser as reads
-use Rattle.rt_expression.proofs.ExpressionLines.{First, After, expression_goes, good_expression, good_place, good_condition}
-use Rattle.rt_expression.proofs.ModeLines as modes
+use Rattle.rt_syntax_exprs.proofs.ExpressionLines.{First, After, expression_goes, good_expression, good_place, good_condition}
+use Rattle.rt_syntax_exprs.proofs.ModeLines as modes
 
 -- ---- what begins statements, and what follows them, by numbers
 

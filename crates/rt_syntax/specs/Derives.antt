@@ -1,8 +1,8 @@
 -- What a body is, which item of a list is unfit for a part of the grammar, and what the parser of the part may answer.
 use Rattle.std.specs.Prelude.{◌≡◌, ℕ, ◌+◌, ◌-◌, ◌<◌, ◌≤◌, List, length, drop, Option, Some, None, Result, Ok, Err, ◌⊎◌, slice_get}
 use Rattle.rt_pieces.specs.declared.item.Item.{Item}
-use Rattle.rt_expression.specs.declared.limits.Limits.{Limits}
-use Rattle.rt_expression.specs.declared.limits.Context.{Context}
+use Rattle.rt_syntax_exprs.specs.declared.limits.Limits.{Limits}
+use Rattle.rt_syntax_exprs.specs.declared.limits.Context.{Context}
 use Rattle.rt_syntax.specs.declared.tree.Body.{Body}
 use Rattle.rt_syntax.specs.declared.fault.SyntaxFault.{SyntaxFault}
 use Rattle.rt_syntax.specs.declared.fault.SyntaxFault.TheVariants.{Memory, Syntax}

@@ -9,10 +9,10 @@ use Rattle.rt_grammar.specs.declared.next.Next.{Next}
 use Rattle.rt_grammar.specs.declared.next.Next.TheVariants as next
 use Rattle.rt_grammar.specs.Parts.{next_of, push}
 use Rattle.rt_grammar.specs.Parsing.{Parser, ◌>>=◌, pure, refuse, here, by_next, choose, optional, mark, word, ident, label, label_comes, is_word, is_mark, mark_comes, word_comes, within, turns, turns_from}
-use Rattle.rt_expression.specs.declared.limits.Context.{Context}
-use Rattle.rt_expression.specs.declared.tree.Expr.{Expr}
-use Rattle.rt_expression.specs.declared.tree.Chain.{Chain}
-use Rattle.rt_expression.specs.declared.tree.Cond.{Cond}
+use Rattle.rt_syntax_exprs.specs.declared.limits.Context.{Context}
+use Rattle.rt_syntax_exprs.specs.declared.tree.Expr.{Expr}
+use Rattle.rt_syntax_exprs.specs.declared.tree.Chain.{Chain}
+use Rattle.rt_syntax_exprs.specs.declared.tree.Cond.{Cond}
 use Rattle.rt_syntax.specs.declared.tree.Local.{Local}
 use Rattle.rt_syntax.specs.declared.tree.Locals.{Locals}
 use Rattle.rt_syntax.specs.declared.tree.Control.{Control}
@@ -21,10 +21,10 @@ use Rattle.rt_syntax.specs.declared.tree.Simple.{Simple}
 use Rattle.rt_syntax.specs.declared.tree.Simple.TheVariants as s
 use Rattle.rt_syntax.specs.declared.tree.Stmt.{Stmt, roll-Stmt}
 use Rattle.rt_syntax.specs.declared.tree.Body.{Body, roll-Body}
-use Rattle.rt_expression.specs.Tables.{begins_expression, begins_mode_by_word}
+use Rattle.rt_syntax_exprs.specs.Tables.{begins_expression, begins_mode_by_word}
 use Rattle.rt_syntax.specs.Tables.{begins_simple}
-use Rattle.rt_expression.specs.ExpressionParser.{expression, place, condition}
-use Rattle.rt_expression.specs.ModeParser.{mode_by_word}
+use Rattle.rt_syntax_exprs.specs.ExpressionParser.{expression, place, condition}
+use Rattle.rt_syntax_exprs.specs.ModeParser.{mode_by_word}
 
 unfoldable pub becomes : Context → Parser Expr
 becomes c = do _ ← mark m.Becomes; expression c

@@ -4,8 +4,8 @@ use Rattle.rt_pieces.specs.declared.item.Mark.TheVariants as m
 use Rattle.rt_pieces.specs.declared.item.Word.TheVariants as w
 use Rattle.rt_grammar.specs.declared.at.Ident.{Ident}
 use Rattle.rt_grammar.specs.Parts.{Part, nothing, never, either, ◌>>=◌, optional, turns, within, here, mark, word, ident, label, push}
-use Rattle.rt_expression.specs.declared.limits.Context.{Context}
-use Rattle.rt_expression.specs.declared.tree.Expr.{Expr}
+use Rattle.rt_syntax_exprs.specs.declared.limits.Context.{Context}
+use Rattle.rt_syntax_exprs.specs.declared.tree.Expr.{Expr}
 use Rattle.rt_syntax.specs.declared.tree.Local.{Local}
 use Rattle.rt_syntax.specs.declared.tree.Locals.{Locals}
 use Rattle.rt_syntax.specs.declared.tree.Control.{Control}
@@ -14,8 +14,8 @@ use Rattle.rt_syntax.specs.declared.tree.Simple.{Simple}
 use Rattle.rt_syntax.specs.declared.tree.Simple.TheVariants as s
 use Rattle.rt_syntax.specs.declared.tree.Stmt.{Stmt, roll-Stmt}
 use Rattle.rt_syntax.specs.declared.tree.Body.{Body, roll-Body}
-use Rattle.rt_expression.specs.Expressions.{expression, place, condition}
-use Rattle.rt_expression.specs.Modes.{mode_by_word}
+use Rattle.rt_syntax_exprs.specs.Expressions.{expression, place, condition}
+use Rattle.rt_syntax_exprs.specs.Modes.{mode_by_word}
 
 -- := expr
 abbrev pub becomes : Context → Part Expr

@@ -11,9 +11,9 @@ ghost use Rattle.rt_syntax.specs.Derives.{Derives, IsOrMemory, Refuses, line_lef
 use crate::fault::SyntaxFault;
 use crate::statements::body;
 use crate::tree::Body;
-use rt_expression::{Context, LIMITS};
 use rt_grammar::{Stop, after_word, word_comes};
 use rt_pieces::{Item, Word};
+use rt_syntax_exprs::{Context, LIMITS};
 use std::alloc::Global;
 
 /// The items after the word that ends a body.

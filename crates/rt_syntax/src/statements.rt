@@ -7,15 +7,15 @@ ghost use Rattle.rt_syntax.specs.StatementParser as reads;
 
 use crate::table::begins_simple;
 use crate::tree::{Body, Branch, Control, Local, Locals, Simple, Stmt};
-use rt_expression::{
-    Chain, Context, Expr, begins_expression, begins_mode_by_word, condition, expression,
-    mode_by_word, place,
-};
 use rt_grammar::{
     At, Ident, Next, Stop, after_mark, after_word, at_of, ident, label, label_comes, mark_comes,
     next_of, open_word, word_comes,
 };
 use rt_pieces::{Item, Mark, Word};
+use rt_syntax_exprs::{
+    Chain, Context, Expr, begins_expression, begins_mode_by_word, condition, expression,
+    mode_by_word, place,
+};
 use rt_words::List;
 use std::alloc::Global;
 

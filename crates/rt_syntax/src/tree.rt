@@ -1,7 +1,7 @@
 //! The trees of statements and bodies. Each node and each name in a node says where it begins.
 
-use rt_expression::{Chain, Cond, Expr, WrittenMode};
 use rt_grammar::{At, Ident};
+use rt_syntax_exprs::{Chain, Cond, Expr, WrittenMode};
 use rt_words::List;
 
 /// A name that a body declares, and its start.

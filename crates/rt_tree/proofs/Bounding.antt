@@ -1,13 +1,13 @@
 -- Another bound of a recursion changes nothing of what fits.
 use Rattle.std.proofs.Common.{◌≡◌, ℕ, zero, suc, ◌<◌, ◌≤◌, List, [], ◌∷◌, Some, None, length, slice_set, slice_index_or, Vec, vec_len, Global, refl, sym, arith}
 use Rattle.std.specs.List.{list_all}
-use Rattle.rt_nodes.specs.declared.brick.Brick.{Brick}
-use Rattle.rt_nodes.specs.declared.brick.BrickSort.{BrickSort}
-use Rattle.rt_nodes.specs.declared.brick.BrickSort.TheVariants as sort
-use Rattle.rt_nodes.specs.declared.brick.Kind.{Kind}
-use Rattle.rt_nodes.specs.declared.brick.ModuleParts.{ModuleParts}
+use Rattle.rt_tree_nodes.specs.declared.brick.Brick.{Brick}
+use Rattle.rt_tree_nodes.specs.declared.brick.BrickSort.{BrickSort}
+use Rattle.rt_tree_nodes.specs.declared.brick.BrickSort.TheVariants as sort
+use Rattle.rt_tree_nodes.specs.declared.brick.Kind.{Kind}
+use Rattle.rt_tree_nodes.specs.declared.brick.ModuleParts.{ModuleParts}
 use Rattle.rt_tree.specs.Modules.{every_node_fits, with_most, bricks_with, sort_with, brick_fits, sort_fits}
-use Rattle.rt_nodes.specs.Scopes.{Scope, faces, sort_of, scope_of, supplied_of}
+use Rattle.rt_tree_nodes.specs.Scopes.{Scope, faces, sort_of, scope_of, supplied_of}
 
 sorts : (most : ℕ) (s : BrickSort) → sort_of (sort_with most s) ≡ sort_of s
 sorts most (sort.Proc m None) = refl

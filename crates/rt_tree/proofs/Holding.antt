@@ -6,12 +6,12 @@ use Rattle.rt_modes.specs.declared.mode.Mode.{Mode, out-Mode}
 use Rattle.rt_modes.specs.declared.mode.Mode.TheOpen.{Mode-F}
 use Rattle.rt_modes.specs.declared.mode.ModeTable.{ModeTable}
 use Rattle.rt_modes.specs.declared.mode.RecordDef.{RecordDef}
-use Rattle.rt_nodes.specs.declared.store.Contents.{Contents, out-Contents, the_lemmas}
-use Rattle.rt_nodes.specs.declared.store.Contents.TheOpen.{Contents-F}
-use Rattle.rt_nodes.specs.declared.store.Contents.TheVariants as contents
-use Rattle.rt_nodes.specs.declared.store.Datum.{Datum}
+use Rattle.rt_tree_nodes.specs.declared.store.Contents.{Contents, out-Contents, the_lemmas}
+use Rattle.rt_tree_nodes.specs.declared.store.Contents.TheOpen.{Contents-F}
+use Rattle.rt_tree_nodes.specs.declared.store.Contents.TheVariants as contents
+use Rattle.rt_tree_nodes.specs.declared.store.Datum.{Datum}
 use Rattle.rt_tree.specs.Modules.{mode_along, part_mode}
-use Rattle.rt_nodes.specs.Scopes.{with, field_at}
+use Rattle.rt_tree_nodes.specs.Scopes.{with, field_at}
 use Rattle.rt_tree.specs.Stored as s
 use Rattle.rt_tree.specs.Stored.{System, Suits, Holds, HoldAll, HoldEach, HoldsInside, HoldsWritten, part, part_of, inside, change_found, changed, with_datum, with_part, written}
 

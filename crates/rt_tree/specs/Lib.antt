@@ -6,3 +6,5 @@ pub mod Stored
 pub mod Taken
 pub mod Weights
 pub mod Within
+pub mod FullModes
+pub mod Opened

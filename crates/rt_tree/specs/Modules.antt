@@ -8,25 +8,25 @@ use Rattle.rt_modes.specs.declared.mode.Mode.TheFolds.{fold-Mode}
 use Rattle.rt_modes.specs.declared.mode.Mode.TheOpen.{Mode-F}
 use Rattle.rt_modes.specs.declared.mode.Mode.TheVariants as mode
 use Rattle.rt_modes.specs.declared.mode.RecordDef.{RecordDef}
-use Rattle.rt_nodes.specs.declared.brick.Brick.{Brick}
-use Rattle.rt_nodes.specs.declared.brick.BrickSort.{BrickSort}
-use Rattle.rt_nodes.specs.declared.brick.BrickSort.TheVariants as sort
-use Rattle.rt_nodes.specs.declared.brick.DataStart.{DataStart}
-use Rattle.rt_nodes.specs.declared.brick.DataStart.TheFolds.{fold-DataStart}
-use Rattle.rt_nodes.specs.declared.brick.DataStart.TheOpen.{DataStart-F}
-use Rattle.rt_nodes.specs.declared.brick.Kind.{Kind}
-use Rattle.rt_nodes.specs.declared.brick.Kind.TheVariants as kind
-use Rattle.rt_nodes.specs.declared.brick.Local.{Local}
-use Rattle.rt_nodes.specs.declared.brick.Local.TheVariants as local
-use Rattle.rt_nodes.specs.declared.brick.ModuleParts.{ModuleParts}
-use Rattle.rt_nodes.specs.declared.brick.ProcBody.{ProcBody}
+use Rattle.rt_tree_nodes.specs.declared.brick.Brick.{Brick}
+use Rattle.rt_tree_nodes.specs.declared.brick.BrickSort.{BrickSort}
+use Rattle.rt_tree_nodes.specs.declared.brick.BrickSort.TheVariants as sort
+use Rattle.rt_tree_nodes.specs.declared.brick.DataStart.{DataStart}
+use Rattle.rt_tree_nodes.specs.declared.brick.DataStart.TheFolds.{fold-DataStart}
+use Rattle.rt_tree_nodes.specs.declared.brick.DataStart.TheOpen.{DataStart-F}
+use Rattle.rt_tree_nodes.specs.declared.brick.Kind.{Kind}
+use Rattle.rt_tree_nodes.specs.declared.brick.Kind.TheVariants as kind
+use Rattle.rt_tree_nodes.specs.declared.brick.Local.{Local}
+use Rattle.rt_tree_nodes.specs.declared.brick.Local.TheVariants as local
+use Rattle.rt_tree_nodes.specs.declared.brick.ModuleParts.{ModuleParts}
+use Rattle.rt_tree_nodes.specs.declared.brick.ProcBody.{ProcBody}
 use Rattle.rt_tree.specs.declared.standing.Standing.{Standing}
 use Rattle.rt_tree.specs.declared.standing.Standing.TheVariants as standing
 use Rattle.rt_tree.specs.declared.sight.Next.{Next}
-use Rattle.rt_nodes.specs.declared.statement.Body.{Body, out-Body}
-use Rattle.rt_nodes.specs.Scopes.{with, passes, same, Scope, Face, Sort, OfData, faces, errors_of, streams_of, is_svc, field_is, is_label_layer, proc_mode, field_mode, field_at, scope_of, with_locals}
+use Rattle.rt_tree_nodes.specs.declared.statement.Body.{Body, out-Body}
+use Rattle.rt_tree_nodes.specs.Scopes.{with, passes, same, Scope, Face, Sort, OfData, is_svc, field_is, is_label_layer, proc_mode, field_mode, field_at, scope_of, with_locals}
 use Rattle.rt_tree.specs.Statements.{Sight, next_by, labels_end, marked, body_part, closed}
-use Rattle.rt_nodes.specs.Typing.{Signature, signature_by}
+use Rattle.rt_tree_nodes.specs.Typing.{Signature, signature_by}
 
 -- ---- where a mode may stand
 

@@ -1,6 +1,6 @@
 -- What a statement sees in the code, in the terms of the definitions.
 use Rattle.std.specs.Prelude.{List, [], ◌∷◌}
-use Rattle.rt_nodes.specs.Code.{mode_found}
+use Rattle.rt_tree_nodes.specs.Code.{mode_found}
 use Rattle.rt_tree.specs.declared.sight.Labels.{Labels}
 use Rattle.rt_tree.specs.declared.sight.Seen.{Seen, Sequence'}
 use Rattle.rt_tree.specs.declared.sight.Seen.TheVariants as seen

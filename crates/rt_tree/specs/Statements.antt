@@ -2,26 +2,26 @@
 use Rattle.std.specs.Prelude.{ℕ, suc, ◌+◌, Bool, true, false, ◌&&◌, ◌||◌, nat_lt, nat_le, ◌==◌, if◌then◌else◌, List, [], ◌∷◌, length, Option, Some, None, slice_get}
 use Rattle.rt_modes.specs.declared.mode.Mode.{Mode, out-Mode}
 use Rattle.rt_modes.specs.declared.mode.Mode.TheOpen.{Mode-F}
-use Rattle.rt_nodes.specs.declared.brick.Local.{Local}
-use Rattle.rt_nodes.specs.declared.brick.Local.TheVariants as local
-use Rattle.rt_nodes.specs.declared.operators.Rel.{Rel}
-use Rattle.rt_nodes.specs.declared.operators.Rel.TheVariants as rel
+use Rattle.rt_tree_nodes.specs.declared.brick.Local.{Local}
+use Rattle.rt_tree_nodes.specs.declared.brick.Local.TheVariants as local
+use Rattle.rt_tree_nodes.specs.declared.operators.Rel.{Rel}
+use Rattle.rt_tree_nodes.specs.declared.operators.Rel.TheVariants as rel
 use Rattle.rt_tree.specs.declared.sight.Labels.{Labels}
 use Rattle.rt_tree.specs.declared.sight.Next.{Next}
-use Rattle.rt_nodes.specs.declared.statement.Body.{Body}
-use Rattle.rt_nodes.specs.declared.statement.Branch.{Branch}
-use Rattle.rt_nodes.specs.declared.statement.Stat.{Stat}
-use Rattle.rt_nodes.specs.declared.statement.Stat.TheFolds.{fold-Stat, fold-Body, fold-Branch, fold-Labelled}
-use Rattle.rt_nodes.specs.declared.statement.Stat.TheOpen.{Stat-F, Body-F, Branch-F, Labelled-F}
-use Rattle.rt_nodes.specs.declared.statement.Labelled.{Labelled}
-use Rattle.rt_nodes.specs.declared.statement.LocalStart.{LocalStart}
-use Rattle.rt_nodes.specs.declared.statement.Test.{Test}
-use Rattle.rt_nodes.specs.declared.statement.Test.TheFolds.{fold-Test}
-use Rattle.rt_nodes.specs.declared.statement.Test.TheOpen.{Test-F}
-use Rattle.rt_nodes.specs.declared.value.Value.{Value}
-use Rattle.rt_nodes.specs.Scopes.{with, only, passes, same, Scope}
-use Rattle.rt_nodes.specs.Tree.{Term, Num, Cond, Is, Both, Either, Stmt, Keep, Clear, Put, Run, Toss, Goto, GiveBack, Back, Switch, Inner, If, For, To, While, Recover, Seq, Done, Then, Mark}
-use Rattle.rt_nodes.specs.Typing.{Valued, Placed, OnLocal, OnPath, OnRow, is_int, compare_fits, suits, assigned_mode, mode_at, placed, valued}
+use Rattle.rt_tree_nodes.specs.declared.statement.Body.{Body}
+use Rattle.rt_tree_nodes.specs.declared.statement.Branch.{Branch}
+use Rattle.rt_tree_nodes.specs.declared.statement.Stat.{Stat}
+use Rattle.rt_tree_nodes.specs.declared.statement.Stat.TheFolds.{fold-Stat, fold-Body, fold-Branch, fold-Labelled}
+use Rattle.rt_tree_nodes.specs.declared.statement.Stat.TheOpen.{Stat-F, Body-F, Branch-F, Labelled-F}
+use Rattle.rt_tree_nodes.specs.declared.statement.Labelled.{Labelled}
+use Rattle.rt_tree_nodes.specs.declared.statement.LocalStart.{LocalStart}
+use Rattle.rt_tree_nodes.specs.declared.statement.Test.{Test}
+use Rattle.rt_tree_nodes.specs.declared.statement.Test.TheFolds.{fold-Test}
+use Rattle.rt_tree_nodes.specs.declared.statement.Test.TheOpen.{Test-F}
+use Rattle.rt_tree_nodes.specs.declared.value.Value.{Value}
+use Rattle.rt_tree_nodes.specs.Scopes.{with, only, passes, Scope}
+use Rattle.rt_tree_nodes.specs.Tree.{Term, Num, Cond, Is, Both, Either, Stmt, Keep, Clear, Put, Run, Toss, Goto, GiveBack, Back, Switch, Inner, If, For, To, While, Recover, Seq, Done, Then, Mark}
+use Rattle.rt_tree_nodes.specs.Typing.{Valued, Placed, OnLocal, OnPath, OnRow, is_int, compare_fits, suits, assigned_mode, mode_at, placed, valued}
 
 -- ---- conditions
 

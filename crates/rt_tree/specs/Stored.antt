@@ -9,23 +9,23 @@ use Rattle.rt_modes.specs.declared.mode.Mode.TheVariants as mode
 use Rattle.rt_modes.specs.declared.mode.ModeTable.{ModeTable}
 use Rattle.rt_modes.specs.declared.mode.RecordDef.{RecordDef}
 use Rattle.rt_modes.specs.FullMode.{FullMode}
-use Rattle.rt_nodes.specs.declared.brick.Brick.{Brick}
-use Rattle.rt_nodes.specs.declared.brick.BrickSort.TheVariants as sort
-use Rattle.rt_nodes.specs.declared.brick.DataStart.{DataStart}
-use Rattle.rt_nodes.specs.declared.brick.Kind.TheVariants as kind
-use Rattle.rt_nodes.specs.declared.brick.ModuleParts.{ModuleParts}
-use Rattle.rt_nodes.specs.declared.store.Contents.{Contents, out-Contents}
-use Rattle.rt_nodes.specs.declared.store.Contents.TheOpen.{Contents-F}
-use Rattle.rt_nodes.specs.declared.store.Contents.TheVariants as contents
-use Rattle.rt_nodes.specs.declared.store.Datum.{Datum}
-use Rattle.rt_nodes.specs.declared.store.Datum.TheVariants as datum
-use Rattle.rt_nodes.specs.declared.store.Location.{Location}
-use Rattle.rt_nodes.specs.declared.store.Location.TheVariants as location
-use Rattle.rt_nodes.specs.declared.store.Origin.{Origin}
-use Rattle.rt_nodes.specs.declared.store.Origin.TheVariants as origin
-use Rattle.rt_nodes.specs.declared.store.Proc.{Proc}
+use Rattle.rt_tree_nodes.specs.declared.brick.Brick.{Brick}
+use Rattle.rt_tree_nodes.specs.declared.brick.BrickSort.TheVariants as sort
+use Rattle.rt_tree_nodes.specs.declared.brick.DataStart.{DataStart}
+use Rattle.rt_tree_nodes.specs.declared.brick.Kind.TheVariants as kind
+use Rattle.rt_tree_nodes.specs.declared.brick.ModuleParts.{ModuleParts}
+use Rattle.rt_tree_nodes.specs.declared.store.Contents.{Contents, out-Contents}
+use Rattle.rt_tree_nodes.specs.declared.store.Contents.TheOpen.{Contents-F}
+use Rattle.rt_tree_nodes.specs.declared.store.Contents.TheVariants as contents
+use Rattle.rt_tree_nodes.specs.declared.store.Datum.{Datum}
+use Rattle.rt_tree_nodes.specs.declared.store.Datum.TheVariants as datum
+use Rattle.rt_tree_nodes.specs.declared.store.Location.{Location}
+use Rattle.rt_tree_nodes.specs.declared.store.Location.TheVariants as location
+use Rattle.rt_tree_nodes.specs.declared.store.Origin.{Origin}
+use Rattle.rt_tree_nodes.specs.declared.store.Origin.TheVariants as origin
+use Rattle.rt_tree_nodes.specs.declared.store.Proc.{Proc}
 use Rattle.rt_tree.specs.Modules.{is_here, mode_along}
-use Rattle.rt_nodes.specs.Scopes.{faces, field_at, proc_mode}
+use Rattle.rt_tree_nodes.specs.Scopes.{faces, field_at, proc_mode}
 use Rattle.rt_tree.specs.Taken.{taken}
 
 abbrev pub System : Type 0

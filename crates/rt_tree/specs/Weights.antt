@@ -3,10 +3,10 @@
 -- node's.
 use Rattle.std.specs.Prelude.{ℕ, ◌+◌, ◌*◌, if◌then◌else◌, length}
 use Rattle.rt_modes.specs.declared.mode.Mode.{Mode}
-use Rattle.rt_nodes.specs.declared.operators.Op1.{Op1}
-use Rattle.rt_nodes.specs.declared.operators.Op1.TheVariants as op
-use Rattle.rt_nodes.specs.Tree.{Term, Num, Str, Name, Own, Get, Ref, RefRow, Count, CountRow, One, Two, Over, Apply, ApplyBy, Path, ItemAt, Svc, FieldOf, Elem, ElemRow, Past, Terms, NoTerm, MoreTerms, Cond, Is, Both, Either, Stmt, Keep, Clear, Put, Run, Toss, Goto, GiveBack, Back, Switch, Inner, If, For, To, While, Recover, Seq, Done, Then, Mark}
-use Rattle.rt_nodes.specs.Typing.{is_byte}
+use Rattle.rt_tree_nodes.specs.declared.operators.Op1.{Op1}
+use Rattle.rt_tree_nodes.specs.declared.operators.Op1.TheVariants as op
+use Rattle.rt_tree_nodes.specs.Tree.{Term, Num, Str, Name, Own, Get, Ref, RefRow, Count, CountRow, One, Two, Over, Apply, ApplyBy, Path, ItemAt, Svc, FieldOf, Elem, ElemRow, Past, Terms, NoTerm, MoreTerms, Cond, Is, Both, Either, Stmt, Keep, Clear, Put, Run, Toss, Goto, GiveBack, Back, Switch, Inner, If, For, To, While, Recover, Seq, Done, Then, Mark}
+use Rattle.rt_tree_nodes.specs.Typing.{is_byte}
 
 -- the unmarked instructions of so many words of code, those of support code among them
 abbrev pub unmarked : ℕ → ℕ

@@ -2,15 +2,15 @@
 use Rattle.std.specs.Prelude.{ℕ, ◌+◌, ◌*◌, ◌<◌, ◌≤◌, length, Option, Some, None}
 use Rattle.std.specs.List.{AllByRecursion}
 use Rattle.rt_modes.specs.declared.mode.Mode.{Mode, out-Mode}
-use Rattle.rt_nodes.specs.declared.brick.BrickSort.{BrickSort}
-use Rattle.rt_nodes.specs.declared.brick.BrickSort.TheVariants as sort
-use Rattle.rt_nodes.specs.declared.brick.ModuleParts.{ModuleParts}
-use Rattle.rt_nodes.specs.declared.brick.ProcBody.{ProcBody}
+use Rattle.rt_tree_nodes.specs.declared.brick.BrickSort.{BrickSort}
+use Rattle.rt_tree_nodes.specs.declared.brick.BrickSort.TheVariants as sort
+use Rattle.rt_tree_nodes.specs.declared.brick.ModuleParts.{ModuleParts}
+use Rattle.rt_tree_nodes.specs.declared.brick.ProcBody.{ProcBody}
 use Rattle.rt_tree.specs.Depth.{sequence_depth, local_words}
-use Rattle.rt_nodes.specs.Scopes.{scope_of, with_locals}
+use Rattle.rt_tree_nodes.specs.Scopes.{scope_of, with_locals}
 use Rattle.rt_tree.specs.Statements.{body_tree}
-use Rattle.rt_nodes.specs.Tree.{Seq}
-use Rattle.rt_nodes.specs.Typing.{Signature, signature_by}
+use Rattle.rt_tree_nodes.specs.Tree.{Seq}
+use Rattle.rt_tree_nodes.specs.Typing.{Signature, signature_by}
 use Rattle.rt_tree.specs.Weights.{unmarked, sequence_weight}
 
 -- The plain tree of a procedure of a module.

@@ -2,8 +2,8 @@
 
 ghost use Rattle.std.specs.Prelude.{◌≡◌, length, map};
 ghost use Rattle.std.specs.List.{list_all};
-ghost use Rattle.rt_nodes.specs.Code as seen;
-ghost use Rattle.rt_nodes.specs.Scopes.{scope_of};
+ghost use Rattle.rt_tree_nodes.specs.Code as seen;
+ghost use Rattle.rt_tree_nodes.specs.Scopes.{scope_of};
 ghost use Rattle.rt_tree.specs.Modules as modules;
 
 use crate::closing::is_closed;
@@ -12,7 +12,7 @@ use crate::sight::{Next, Seen, Sight};
 use crate::standing::{stands_alone, stands_passed};
 use crate::starts::items_start;
 use rt_modes::{Field, Mode, RecordDef};
-use rt_nodes::{
+use rt_tree_nodes::{
     Body, Brick, BrickSort, DataStart, Kind, Lent, Local, ModuleParts, ProcBody, Scope, Signature,
     ValueMode, same_mode,
 };

@@ -3,7 +3,7 @@
 ghost use Rattle.std.specs.Prelude.{◌≡◌, map};
 ghost use Rattle.rt_tree.specs.Statements as statements;
 
-use rt_nodes::{Body, Branch, Labelled, Stat};
+use rt_tree_nodes::{Body, Branch, Labelled, Stat};
 
 /// Whether a body is closed: control never comes to its end.
 #[cycle(closing)]

@@ -1,15 +1,15 @@
 //! Which conditions, statements and bodies fit.
 
 ghost use Rattle.std.specs.Prelude.{◌≡◌, map, slice_get};
-ghost use Rattle.rt_nodes.specs.Code as seen;
-ghost use Rattle.rt_nodes.specs.Scopes.{only, with};
-ghost use Rattle.rt_nodes.specs.Typing as typing;
+ghost use Rattle.rt_tree_nodes.specs.Code as seen;
+ghost use Rattle.rt_tree_nodes.specs.Scopes.{only, with};
+ghost use Rattle.rt_tree_nodes.specs.Typing as typing;
 ghost use Rattle.rt_tree.specs.Sights as sights;
 ghost use Rattle.rt_tree.specs.Statements as statements;
 
 use crate::sight::{Labels, Next, Seen, Sight};
 use rt_modes::Mode;
-use rt_nodes::{
+use rt_tree_nodes::{
     Body, Branch, Labelled, Local, LocalStart, Place, Rel, Scope, Stat, Test, Value, ValueMode,
     compares, found_at, mode_of, result_of, suits, suits_as,
 };

@@ -1,5 +1,5 @@
 //! The typed tree of a module, in which every node fits. Its nodes, and the locations and contents of a run, are those of
-//! `rt_nodes`.
+//! `rt_tree_nodes`.
 #![tactic(auto)]
 
 mod bricks;
@@ -10,13 +10,11 @@ mod module;
 mod sight;
 mod standing;
 mod starts;
-#[cfg(test)]
-mod tests;
 
 pub use closing::is_closed;
 pub use laws::{parts_suit_their_modes, writes_keep_modes};
 pub use module::TypedModule;
-pub use rt_nodes::{
+pub use rt_tree_nodes::{
     Body, Branch, Brick, BrickSort, Callee, Contents, DataStart, Datum, Found, Kind, Labelled,
     Lent, Local, LocalStart, Location, ModuleParts, Op1, Op2, Origin, Place, Proc, ProcBody, Rel,
     Scope, Signature, Stat, Step, Test, Value, ValueMode, copy_mode, dyadic_mode, found_at,

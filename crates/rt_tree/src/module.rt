@@ -1,13 +1,13 @@
 //! A module in which every node fits.
 
 ghost use Rattle.std.specs.Prelude.{◌≡◌, true, false, IfSome, IfNone, slice_get};
-ghost use Rattle.rt_nodes.specs.Code as seen;
-ghost use Rattle.rt_nodes.specs.Scopes.{scope_of};
+ghost use Rattle.rt_tree_nodes.specs.Code as seen;
+ghost use Rattle.rt_tree_nodes.specs.Scopes.{scope_of};
 ghost use Rattle.rt_tree.specs.Modules.{every_node_fits, has_body, is_procedure, sort_with, with_most};
 
 use crate::bricks::every_node_fits;
 use rt_modes::ModeTable;
-use rt_nodes::{Brick, BrickSort, ModuleParts, Scope, Supplied};
+use rt_tree_nodes::{Brick, BrickSort, ModuleParts, Scope, Supplied};
 use rt_words::{Bytes, List, Name};
 use std::marker::Model;
 
@@ -21,14 +21,14 @@ pub struct TypedModule {
 
 impl Model for TypedModule {
     ghost use Rattle.std.specs.Prelude.{◌≡◌, true};
-    ghost use Rattle.rt_nodes.specs.declared.brick.ModuleParts.{ModuleParts};
-    ghost use Rattle.rt_nodes.specs.Scopes.{supplied_of};
+    ghost use Rattle.rt_tree_nodes.specs.declared.brick.ModuleParts.{ModuleParts};
+    ghost use Rattle.rt_tree_nodes.specs.Scopes.{supplied_of};
     ghost use Rattle.rt_tree.specs.Modules.{every_node_fits};
     ghost use Rattle.std.specs.Coded.{codes};
     ghost use Rattle.rt_modes.specs.contracts.mode.Mode as modes;
-    ghost use Rattle.rt_nodes.specs.contracts.brick.DataStart as starts;
-    ghost use Rattle.rt_nodes.specs.contracts.statement.Stat as statements;
-    ghost use Rattle.rt_nodes.specs.contracts.statement.Body as bodies;
+    ghost use Rattle.rt_tree_nodes.specs.contracts.brick.DataStart as starts;
+    ghost use Rattle.rt_tree_nodes.specs.contracts.statement.Stat as statements;
+    ghost use Rattle.rt_tree_nodes.specs.contracts.statement.Body as bodies;
 
     ghost Value = { ModuleParts };
 

@@ -1,11 +1,11 @@
 //! What a statement sees, and the numbers that come next.
 
 ghost use Rattle.std.specs.Prelude.{◌≡◌};
-ghost use Rattle.rt_nodes.specs.Code as seen;
+ghost use Rattle.rt_tree_nodes.specs.Code as seen;
 ghost use Rattle.rt_tree.specs.Sights as sights;
 ghost use Rattle.rt_tree.specs.Statements as statements;
 
-use rt_nodes::ValueMode;
+use rt_tree_nodes::ValueMode;
 
 /// The labels of a sequence: from `first` to before `end`.
 #[derive(Clone, Copy)]

@@ -3,12 +3,12 @@
 ghost use Rattle.std.specs.Prelude.{◌≡◌, map, slice_get};
 ghost use Rattle.std.specs.Option.{option_copied};
 ghost use Rattle.rt_modes.specs.declared.mode.Mode.{out-Mode};
-ghost use Rattle.rt_nodes.specs.Code as seen;
+ghost use Rattle.rt_tree_nodes.specs.Code as seen;
 ghost use Rattle.rt_tree.specs.Modules as modules;
-ghost use Rattle.rt_nodes.specs.Scopes.{face};
+ghost use Rattle.rt_tree_nodes.specs.Scopes.{face};
 
 use rt_modes::{Field, Mode};
-use rt_nodes::{Brick, BrickSort, DataStart, Kind, Scope, same_mode};
+use rt_tree_nodes::{Brick, BrickSort, DataStart, Kind, Scope, same_mode};
 
 /// Whether there is a start for each item of a data brick, and each fits.
 pub(crate) fn items_start(scope: &Scope<'_>, starts: &[DataStart], fields: &[Field]) -> bool

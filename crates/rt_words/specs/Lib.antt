@@ -1,4 +1,5 @@
 pub mod Word
+pub mod Bytes
 pub mod Built
 pub mod Causes
 pub mod Named

@@ -20,8 +20,6 @@ mod list;
 mod memory;
 mod name;
 mod operators;
-#[cfg(test)]
-mod tests;
 
 pub use arithmetic::{low_word, signed, wrap_add, wrap_sub};
 pub use boxed::Boxed;

@@ -1,6 +1,6 @@
 -- The last values of a list, taken off one by one.
 use Rattle.std.proofs.Common.{◌≡◌, ℕ, zero, suc, List, [], ◌∷◌, ◌++◌, refl, sym, ap, ◌∙◌, append_assoc}
-use Rattle.rt_nodes.specs.declared.store.Datum.{Datum}
+use Rattle.rt_tree_nodes.specs.declared.store.Datum.{Datum}
 use Rattle.rt_work.specs.Task.{taken}
 
 taken_onto : (n : ℕ) (args vs : List Datum) → taken n args vs ≡ taken n [] vs ++ args

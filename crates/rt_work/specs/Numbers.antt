@@ -7,12 +7,12 @@ use Rattle.rt_words.specs.declared.kinds.Quotient.{Quotient}
 use Rattle.rt_words.specs.declared.kinds.Quotient.TheVariants as quotient
 use Rattle.rt_work.specs.declared.numbers.Share.{Share}
 use Rattle.rt_work.specs.declared.numbers.Share.TheVariants.{Gives, Fails}
-use Rattle.rt_nodes.specs.declared.operators.Op1.{Op1}
-use Rattle.rt_nodes.specs.declared.operators.Op1.TheVariants as one
-use Rattle.rt_nodes.specs.declared.operators.Op2.{Op2}
-use Rattle.rt_nodes.specs.declared.operators.Op2.TheVariants as two
-use Rattle.rt_nodes.specs.declared.operators.Rel.{Rel}
-use Rattle.rt_nodes.specs.declared.operators.Rel.TheVariants as rel
+use Rattle.rt_tree_nodes.specs.declared.operators.Op1.{Op1}
+use Rattle.rt_tree_nodes.specs.declared.operators.Op1.TheVariants as one
+use Rattle.rt_tree_nodes.specs.declared.operators.Op2.{Op2}
+use Rattle.rt_tree_nodes.specs.declared.operators.Op2.TheVariants as two
+use Rattle.rt_tree_nodes.specs.declared.operators.Rel.{Rel}
+use Rattle.rt_tree_nodes.specs.declared.operators.Rel.TheVariants as rel
 
 -- ---- operators
 

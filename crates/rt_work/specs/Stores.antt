@@ -2,15 +2,15 @@
 -- A location leads from a brick or string through items, fields and elements by their numbers, each counted from 0. There
 -- are no addresses. What a location that leads nowhere reads is 0, and a write there changes nothing.
 use Rattle.std.specs.Prelude.{ℕ, zero, suc, List, [], ◌∷◌, ◌++◌, Option, Some, None, slice_get, slice_set}
-use Rattle.rt_nodes.specs.declared.store.Proc.{Proc}
-use Rattle.rt_nodes.specs.declared.store.Origin.{Origin}
-use Rattle.rt_nodes.specs.declared.store.Origin.TheVariants.{Brick, Text}
-use Rattle.rt_nodes.specs.declared.store.Location.{Location}
-use Rattle.rt_nodes.specs.declared.store.Location.TheVariants.{Shared, Own}
-use Rattle.rt_nodes.specs.declared.store.Datum.{Datum}
-use Rattle.rt_nodes.specs.declared.store.Datum.TheVariants.{Word, Procedure}
-use Rattle.rt_nodes.specs.declared.store.Contents.{Contents, out-Contents}
-use Rattle.rt_nodes.specs.declared.store.Contents.TheOpen.{Contents-F}
+use Rattle.rt_tree_nodes.specs.declared.store.Proc.{Proc}
+use Rattle.rt_tree_nodes.specs.declared.store.Origin.{Origin}
+use Rattle.rt_tree_nodes.specs.declared.store.Origin.TheVariants.{Brick, Text}
+use Rattle.rt_tree_nodes.specs.declared.store.Location.{Location}
+use Rattle.rt_tree_nodes.specs.declared.store.Location.TheVariants.{Shared, Own}
+use Rattle.rt_tree_nodes.specs.declared.store.Datum.{Datum}
+use Rattle.rt_tree_nodes.specs.declared.store.Datum.TheVariants.{Word, Procedure}
+use Rattle.rt_tree_nodes.specs.declared.store.Contents.{Contents, out-Contents}
+use Rattle.rt_tree_nodes.specs.declared.store.Contents.TheOpen.{Contents-F}
 use Rattle.rt_tree.specs.Stored.{changed, inside, written}
 use Rattle.rt_work.specs.declared.store.ModuleStore.{ModuleStore}
 

@@ -4,18 +4,18 @@
 -- what is still to be done after it, or goes on where there is none. So each line can be read as an order of steps.
 use Rattle.std.specs.Prelude.{ℕ, zero, suc, ◌+◌, ◌-◌, ◌%◌, Bool, true, false, ◌&&◌, nat_le, ◌==◌, not, if◌then◌else◌, List, [], ◌∷◌, ◌++◌, Option, Some, None, slice_get, slice_set}
 use Rattle.rt_words.specs.Word.{wrap_add}
-use Rattle.rt_nodes.specs.declared.store.Proc.{Proc}
-use Rattle.rt_nodes.specs.declared.store.Origin.{Origin}
-use Rattle.rt_nodes.specs.declared.store.Origin.TheVariants.{Brick, Text}
-use Rattle.rt_nodes.specs.declared.store.Location.{Location}
-use Rattle.rt_nodes.specs.declared.store.Location.TheVariants as location
-use Rattle.rt_nodes.specs.declared.store.Datum.{Datum}
-use Rattle.rt_nodes.specs.declared.store.Datum.TheVariants.{Word, Reference, Row, Procedure, Truth}
-use Rattle.rt_nodes.specs.declared.operators.Op1.{Op1}
-use Rattle.rt_nodes.specs.declared.operators.Op2.{Op2}
-use Rattle.rt_nodes.specs.declared.operators.Rel.{Rel}
-use Rattle.rt_nodes.specs.declared.operators.Rel.TheVariants as rel
-use Rattle.rt_nodes.specs.Tree.{Term, Num, Str, Name, Own, Get, Ref, RefRow, Count, CountRow, One, Two, Over, Apply, ApplyBy, Path, ItemAt, Svc, FieldOf, Elem, ElemRow, Past, Terms, NoTerm, MoreTerms, Cond, Is, Both, Either, Stmt, Keep, Clear, Put, Run, Toss, Goto, GiveBack, Back, Switch, Inner, If, For, To, While, Recover, Seq, Done, Then, Mark}
+use Rattle.rt_tree_nodes.specs.declared.store.Proc.{Proc}
+use Rattle.rt_tree_nodes.specs.declared.store.Origin.{Origin}
+use Rattle.rt_tree_nodes.specs.declared.store.Origin.TheVariants.{Brick, Text}
+use Rattle.rt_tree_nodes.specs.declared.store.Location.{Location}
+use Rattle.rt_tree_nodes.specs.declared.store.Location.TheVariants as location
+use Rattle.rt_tree_nodes.specs.declared.store.Datum.{Datum}
+use Rattle.rt_tree_nodes.specs.declared.store.Datum.TheVariants.{Word, Reference, Row, Procedure, Truth}
+use Rattle.rt_tree_nodes.specs.declared.operators.Op1.{Op1}
+use Rattle.rt_tree_nodes.specs.declared.operators.Op2.{Op2}
+use Rattle.rt_tree_nodes.specs.declared.operators.Rel.{Rel}
+use Rattle.rt_tree_nodes.specs.declared.operators.Rel.TheVariants as rel
+use Rattle.rt_tree_nodes.specs.Tree.{Term, Num, Str, Name, Own, Get, Ref, RefRow, Count, CountRow, One, Two, Over, Apply, ApplyBy, Path, ItemAt, Svc, FieldOf, Elem, ElemRow, Past, Terms, NoTerm, MoreTerms, Cond, Is, Both, Either, Stmt, Keep, Clear, Put, Run, Toss, Goto, GiveBack, Back, Switch, Inner, If, For, To, While, Recover, Seq, Done, Then, Mark}
 use Rattle.rt_rules.specs.declared.service.Svc.TheVariants as svc
 use Rattle.rt_work.specs.declared.request.Request.{Request}
 use Rattle.rt_work.specs.declared.request.Request.TheVariants.{Takes, Puts, Rules}

@@ -1,4 +1,4 @@
-use Rattle.rt_expression.specs.Modes.{written_mode}
+use Rattle.rt_syntax_exprs.specs.Modes.{written_mode}
 use Rattle.rt_bricks.proofs.GroupLines.{same_groups}
 use Rattle.rt_bricks.proofs.fields.fields_are_groups.Goals as goal
 

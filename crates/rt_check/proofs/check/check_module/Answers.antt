@@ -1,8 +1,9 @@
-use Rattle.std.proofs.Common.{◌≡◌, List, [], ◌∷◌, Result, Ok, Err, inl, inr, sym, ap, ◌∙◌, subst}
-use Rattle.rt_operands.specs.Outcomes.{IsAnswered}
+use Rattle.std.proofs.Common.{Ok, sym, subst}
+use Rattle.rt_exprs.specs.Outcomes.{IsAnswered}
 use Rattle.rt_tree.specs.Modules.{every_node_fits}
 use Rattle.rt_tree.specs.Within.{Within}
-use Rattle.rt_typed.specs.Modules.{IsTyped, tree}
+use Rattle.rt_check_module.specs.Typed.{IsTyped}
+use Rattle.rt_check_module.specs.Tree.{tree}
 use Rattle.rt_check.proofs.Typed.{strings_rise, fits, within, not_both}
 use Rattle.rt_check.proofs.check.check_module.Goals as goal
 

@@ -1,7 +1,7 @@
 use Rattle.std.proofs.Common.{◌≡◌, ◌≤◌, min, map, length, sym, ◌∙◌, ap, arith}
 use Rattle.rt_exprs.specs.Judging as spec
 use Rattle.std.specs.Option.{option_copied}
-use Rattle.rt_operands.specs.Operands.{found_of, seen}
+use Rattle.rt_exprs.specs.Operands.{found_of, seen}
 use Rattle.rt_exprs.proofs.Trees.{judged_number, judged_text, judged_chained, judged_val, judged_monadic, judged_dyadic, linked_dot, linked_apply, chain_fails, chain_ends, chain_unnamed, arguments_end, reached_as, follow_rows}
 use Rattle.rt_exprs.proofs.expression.+judge.Goals as goal
 

@@ -1,8 +1,8 @@
 use Rattle.std.proofs.Common.{◌≡◌, List, map, drop}
-use Rattle.rt_nodes.specs.declared.value.Value.{Value}
+use Rattle.rt_tree_nodes.specs.declared.value.Value.{Value}
 use Rattle.rt_exprs.specs.Judging as spec
-use Rattle.rt_operands.specs.Operands.{found_of}
-use Rattle.rt_operands.specs.Outcomes.{Outcome, Gives}
+use Rattle.rt_exprs.specs.Operands.{found_of}
+use Rattle.rt_exprs.specs.Outcomes.{Outcome, Gives}
 use Rattle.rt_exprs.proofs.expression.+judge.Given as goal
 
 abbrev pub invariant-judge_chain-loop-link : goal.invariant-judge_chain-loop-link

@@ -1,4 +1,4 @@
-use Rattle.rt_operands.specs.Modes.{want}
+use Rattle.rt_exprs.specs.Modes.{want}
 use Rattle.rt_exprs.proofs.Judged.{fit_fits, fit_only, fit_settles}
 use Rattle.rt_exprs.proofs.expression.fit.Goals as goal
 

@@ -1,4 +1,4 @@
-use Rattle.rt_operands.specs.Modes.{want}
+use Rattle.rt_exprs.specs.Modes.{want}
 use Rattle.rt_exprs.proofs.Judged.{one_fits, none_fits}
 use Rattle.rt_exprs.proofs.expression.one_value.Goals as goal
 

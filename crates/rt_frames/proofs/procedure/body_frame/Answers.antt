@@ -1,7 +1,7 @@
 use Rattle.std.proofs.Common.{false, List, ap, ◌∙◌}
-use Rattle.rt_nodes.specs.Code as seen
-use Rattle.rt_nodes.specs.Scopes.{scope_of, with_locals}
-use Rattle.rt_nodes.specs.Scopes.{Scope}
+use Rattle.rt_tree_nodes.specs.Code as seen
+use Rattle.rt_tree_nodes.specs.Scopes.{scope_of, with_locals}
+use Rattle.rt_tree_nodes.specs.Scopes.{Scope}
 use Rattle.rt_frames.specs.declared.frame.CallPoint.{CallPoint}
 use Rattle.rt_frames.specs.declared.statements.Walk.{Walk}
 use Rattle.rt_frames.proofs.Framed.{frame_is}

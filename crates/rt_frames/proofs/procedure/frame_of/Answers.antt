@@ -1,5 +1,5 @@
 use Rattle.std.proofs.Common.{ℕ, List, slice_get, ap, ◌∙◌}
-use Rattle.rt_nodes.specs.declared.brick.Brick.{Brick}
+use Rattle.rt_tree_nodes.specs.declared.brick.Brick.{Brick}
 use Rattle.rt_frames.proofs.Framed.{frame_here}
 use Rattle.rt_frames.proofs.procedure.frame_of.Goals as goal
 

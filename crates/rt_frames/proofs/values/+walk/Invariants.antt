@@ -1,5 +1,5 @@
 use Rattle.std.proofs.Common.{◌≡◌, map, drop}
-use Rattle.rt_nodes.specs.Code as seen
+use Rattle.rt_tree_nodes.specs.Code as seen
 use Rattle.rt_frames.specs.Measures as measures
 use Rattle.rt_frames.specs.Points as spec
 use Rattle.rt_frames.proofs.values.+walk.Given as goal

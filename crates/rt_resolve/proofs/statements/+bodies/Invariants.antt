@@ -1,5 +1,5 @@
 use Rattle.std.proofs.Common.{◌≡◌, map, take}
-use Rattle.rt_nodes.specs.Code as seen
+use Rattle.rt_tree_nodes.specs.Code as seen
 use Rattle.rt_resolve.specs.Trees.{row, row_tree, branch, branch_tree}
 use Rattle.rt_resolve.proofs.statements.+bodies.Given as goal
 

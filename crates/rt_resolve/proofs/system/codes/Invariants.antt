@@ -1,5 +1,5 @@
 use Rattle.std.proofs.Common.{◌≡◌, map, take}
-use Rattle.rt_nodes.specs.Code as seen
+use Rattle.rt_tree_nodes.specs.Code as seen
 use Rattle.rt_resolve.specs.Systems as systems
 use Rattle.rt_resolve.proofs.system.codes.Given as goal
 

@@ -1,6 +1,6 @@
 use Rattle.std.proofs.Common.{◌≡◌, drop}
 use Rattle.std.specs.List.{list_all}
-use Rattle.rt_nodes.specs.Code as seen
+use Rattle.rt_tree_nodes.specs.Code as seen
 use Rattle.rt_tree.specs.Modules as modules
 use Rattle.rt_tree.proofs.bricks.bricks_fit.Given as goal
 

@@ -1,5 +1,5 @@
 use Rattle.std.proofs.Common.{◌≡◌, map, drop}
-use Rattle.rt_nodes.specs.Code as seen
+use Rattle.rt_tree_nodes.specs.Code as seen
 use Rattle.rt_tree.specs.Sights as sights
 use Rattle.rt_tree.specs.Statements as statements
 use Rattle.rt_tree.proofs.fitting.+bodies.Given as goal

@@ -1,5 +1,5 @@
 use Rattle.std.proofs.Common.{◌≡◌, map, drop}
-use Rattle.rt_nodes.specs.Code as seen
+use Rattle.rt_tree_nodes.specs.Code as seen
 use Rattle.rt_tree.specs.Modules as modules
 use Rattle.rt_tree.proofs.starts.+starts.Given as goal
 

@@ -1,5 +1,5 @@
 use Rattle.std.proofs.Common.{◌≡◌, map, drop}
-use Rattle.rt_nodes.specs.Code as seen
+use Rattle.rt_tree_nodes.specs.Code as seen
 use Rattle.rt_frames.specs.Walks as spec
 use Rattle.rt_frames.proofs.statements.Walk.starts.Given as goal
 

@@ -1,7 +1,7 @@
 use Rattle.std.proofs.Common.{◌≡◌, refl, sym, ap, ◌∙◌, arith}
-use Rattle.rt_nodes.specs.Scopes.{supplied_of}
+use Rattle.rt_tree_nodes.specs.Scopes.{supplied_of}
 use Rattle.rt_tree.specs.Modules.{every_node_fits, with_most, bricks_with}
-use Rattle.rt_nodes.specs.declared.brick.ModuleParts.{ModuleParts}
+use Rattle.rt_tree_nodes.specs.declared.brick.ModuleParts.{ModuleParts}
 use Rattle.rt_tree.proofs.module.TypedModule.bound.Goals as goal
 use Rattle.rt_tree.proofs.module.TypedModule.bound.Goals.{in-Some, in_default}
 use Rattle.rt_tree.proofs.Bounding.{fits_still, supplied_still, put_there, left_there}

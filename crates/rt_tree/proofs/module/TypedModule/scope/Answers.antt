@@ -1,5 +1,5 @@
 use Rattle.std.proofs.Common.{ap, ◌∙◌}
-use Rattle.rt_nodes.specs.Scopes.{scope_of}
+use Rattle.rt_tree_nodes.specs.Scopes.{scope_of}
 use Rattle.rt_tree.proofs.module.TypedModule.scope.Goals as goal
 
 pub returns : goal.returns

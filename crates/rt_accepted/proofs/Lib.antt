@@ -1,6 +1,0 @@
-pub mod Growing
-pub mod Holding
-pub mod Sequences
-pub mod Accepted
-pub mod Brick
-pub mod Shallow

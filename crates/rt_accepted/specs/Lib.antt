@@ -1,4 +1,0 @@
-pub mod Texts
-pub mod Held
-pub mod Laws
-pub mod Shallow

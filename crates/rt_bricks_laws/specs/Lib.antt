@@ -1,0 +1,10 @@
+pub mod Counts
+pub mod Counted
+pub mod Laws
+pub mod Modes
+pub mod Strings
+pub mod Numbers
+pub mod Bodies
+pub mod Spelled
+pub mod SpelledDeclarations
+pub mod Shallow

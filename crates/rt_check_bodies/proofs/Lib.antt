@@ -1,0 +1,5 @@
+pub mod Alike
+pub mod Levels
+pub mod Lines
+pub mod Declaring
+pub mod Wholes

@@ -1,0 +1,5 @@
+pub mod Sights
+pub mod Parts
+pub mod Seen
+pub mod Statements
+pub mod Procedures

@@ -1,0 +1,296 @@
+//! What the nodes of a body see.
+
+ghost use Rattle.std.specs.Prelude.{◌≡◌, false, [], ◌∷◌, ◌++◌, map, IfOk, OnOk};
+ghost use Rattle.std.specs.Option.{option_copied};
+ghost use Rattle.rt_exprs.specs.Outcomes.{Gives};
+ghost use Rattle.rt_exprs.specs.Names.{find};
+ghost use Rattle.rt_exprs.specs.Judging.{target, val_target, alone};
+ghost use Rattle.rt_check_declared.specs.declared.site.Site.TheVariants as site;
+ghost use Rattle.rt_check_declared.specs.Unfit.{unfit_record};
+ghost use Rattle.rt_check_declared.specs.Verdicts.{Answers};
+ghost use Rattle.rt_check_declared.specs.Written.{written as spelt};
+ghost use Rattle.rt_check_bodies.specs.Sights as spec;
+ghost use Rattle.rt_check_bodies.specs.Seen.{names_of, Alike};
+
+use indexmap::{IndexMap, IndexSet};
+use rt_check_declared::{Resolved, Site, find_name, resolve, unfit_record};
+use rt_exprs::{
+    CheckFault, IndexedRecords, Level, Meaning, Scope, fit, fit_call, fit_condition, fit_target,
+    fit_val_target,
+};
+use rt_grammar::{At, Ident};
+use rt_modes::Mode;
+use rt_syntax_exprs::{Chain, Cond, Expr, WrittenMode};
+use rt_tree_nodes::{Place, Stat, Test, Value};
+use rt_words::Memory;
+use std::alloc::Global;
+use std::marker::Model;
+
+/// What a node sees: contracts see it as a `Sight`.
+#[derive(Drop)]
+pub struct Names<'a> {
+    modes: &'a IndexedRecords,
+    unfit: &'a [Option<CheckFault>],
+    strings: &'a IndexSet<u16>,
+    levels: Vec<Level<'a>>,
+}
+
+impl<'a> Model for Names<'a> {
+    ghost use Rattle.std.specs.Prelude.{map};
+    ghost use Rattle.rt_check_bodies.specs.Sights.{Sight};
+    ghost use Rattle.std.specs.Coded.{codes};
+    ghost use Rattle.rt_modes.specs.contracts.mode.Mode as trees;
+    ghost use Rattle.rt_check_bodies.specs.Seen.{names_of};
+
+    ghost Value = { Sight };
+
+    ghost coded = { Prim.hlevel (codes, trees.the_row.coded) };
+
+    ghost view = { λ n. record { records = n.modes.now.records; unfit = n.unfit.now; strings = n.strings.now.keys; levels = map names_of n.levels.items } };
+}
+
+impl<'a> Names<'a> {
+    /// What the procedures of a module see: its records, of each its fault where it is unfit, the items of its strings, and
+    /// the names of its declarations.
+    pub fn new(
+        alloc: Global,
+        modes: &'a IndexedRecords,
+        unfit: &'a [Option<CheckFault>],
+        strings: &'a IndexSet<u16>,
+        level: Level<'a>,
+    ) -> Result<Names<'a>, Memory>
+        ensures { IfOk result (λ n. n ≡ record { records = modes.now.records; unfit = unfit.now; strings = strings.now.keys; levels = names_of level.entry ∷ [] }) }
+    {
+        let Ok(mut levels) = Vec::with_capacity(alloc, 1) else {
+            return Err(Memory);
+        };
+        let Ok(()) = levels.push(level) else {
+            return Err(Memory);
+        };
+        Ok(Names {
+            modes,
+            unfit,
+            strings,
+            levels,
+        })
+    }
+
+    /// Opens a level of names.
+    pub fn enter(&mut self, level: Level<'a>) -> Result<(), Memory>
+        ensures { OnOk result (self.new ≡ spec.within (names_of level.entry) self.old) }
+    {
+        match self.levels.insert(0, level) {
+            Ok(()) => Ok(()),
+            Err(_) => Err(Memory),
+        }
+    }
+
+    /// Closes the innermost level.
+    pub fn leave(&mut self)
+        ensures { self.new ≡ spec.outside self.old }
+    {
+        if self.levels.len() > 0 {
+            self.levels.remove(0);
+        }
+    }
+
+    /// One name more in the innermost level: whether it was there already.
+    pub fn declare(
+        &mut self,
+        alloc: Global,
+        name: &'a [u8],
+        meaning: Meaning,
+    ) -> Result<bool, Memory>
+        ensures held { IfOk result (λ held. held ≡ spec.holds (spec.innermost self.old.levels) name.now) }
+        ensures declared { OnOk result (self.new ≡ spec.with_name name.now meaning self.old) }
+    {
+        let mut level = self.take_innermost(alloc);
+        let held = declare(&mut level, name, meaning)?;
+        self.enter(level)?;
+        Ok(held)
+    }
+
+    fn take_innermost(&mut self, alloc: Global) -> Level<'a>
+        ensures level { names_of result ≡ spec.innermost self.old.levels }
+        ensures left { self.new ≡ spec.outside self.old }
+    {
+        if self.levels.len() > 0 {
+            self.levels.remove(0)
+        } else {
+            IndexMap::new(alloc)
+        }
+    }
+
+    /// The same as the rules of expressions take it.
+    pub fn scope(&self) -> Scope<'_>
+        ensures { Alike result (spec.scope_of self.now) }
+    {
+        Scope {
+            modes: self.modes,
+            strings: self.strings,
+            levels: self.levels.as_slice(),
+        }
+    }
+
+    /// The value of an expression where a mode is wanted.
+    pub fn value(&self, alloc: Global, expr: &Expr, wanted: &Mode) -> Result<Value, CheckFault>
+        ensures { Gives (λ v. v) result (spec.value_in self.now expr.now wanted.now) }
+    {
+        fit(alloc, expr, wanted, &self.scope())
+    }
+
+    /// The place to which a chain assigns, and its mode.
+    fn target(&self, alloc: Global, to: &Chain) -> Result<(Place, &Mode), CheckFault>
+        ensures { Gives (λ x. (x.0, x.1.now)) result (target (spec.scope_of self.now) to.now) }
+    {
+        fit_target(alloc, to, &self.scope())
+    }
+
+    /// The same of what VAL, which stands at `at`, and a chain name.
+    fn val_target(&self, alloc: Global, at: At, to: &Chain) -> Result<(Place, &Mode), CheckFault>
+        ensures { Gives (λ x. (x.0, x.1.now)) result (val_target (spec.scope_of self.now) at to.now) }
+    {
+        fit_val_target(alloc, at, to, &self.scope())
+    }
+
+    /// An assignment to a chain.
+    pub fn assignment(&self, alloc: Global, to: &Chain, from: &Expr) -> Result<Stat, CheckFault>
+        ensures { Gives (λ x. x) result (spec.assignment_in self.now to.now from.now) }
+    {
+        let (place, mode) = self.target(alloc, to)?;
+        let value = self.value(alloc, from, mode)?;
+        Ok(Stat::Assign(place, value))
+    }
+
+    /// An assignment to what VAL, which stands at `at`, and a chain name.
+    pub fn val_assignment(
+        &self,
+        alloc: Global,
+        at: At,
+        to: &Chain,
+        from: &Expr,
+    ) -> Result<Stat, CheckFault>
+        ensures { Gives (λ x. x) result (spec.val_assignment_in self.now at to.now from.now) }
+    {
+        let (place, mode) = self.val_target(alloc, at, to)?;
+        let value = self.value(alloc, from, mode)?;
+        Ok(Stat::Assign(place, value))
+    }
+
+    fn called(&self, alloc: Global, chain: &Chain) -> Result<Value, CheckFault>
+        ensures { Gives (λ v. v) result (alone (spec.scope_of self.now) chain.now) }
+    {
+        fit_call(alloc, chain, &self.scope())
+    }
+
+    /// A chain that stands alone.
+    pub fn call(&self, alloc: Global, chain: &Chain) -> Result<Stat, CheckFault>
+        ensures { Gives (λ x. x) result (spec.call_in self.now chain.now) }
+    {
+        let call = self.called(alloc, chain)?;
+        Ok(Stat::Call(call))
+    }
+
+    pub fn test(&self, alloc: Global, condition: &Cond) -> Result<Test, CheckFault>
+        ensures { Gives (λ t. t) result (spec.test_in self.now condition.now) }
+    {
+        fit_condition(alloc, condition, &self.scope())
+    }
+
+    /// What a name stands for.
+    fn meaning(&self, name: &[u8]) -> Option<&Meaning>
+        ensures { option_copied result ≡ find (spec.scope_of self.now) name.now }
+    {
+        find_name(self.levels.as_slice(), name)
+    }
+
+    /// The label that GOTO or SWITCH names.
+    pub fn label(&self, name: &Ident) -> Result<u16, CheckFault>
+        ensures { Gives (λ k. k) result (spec.label_in self.now name.now) }
+    {
+        label_by(name.at, self.meaning(name.name.as_slice()))
+    }
+
+    /// The mode that is written for a parameter, a local or a result, unfit records aside.
+    fn resolved(&self, alloc: Global, written: &WrittenMode) -> Result<Resolved, CheckFault>
+        ensures { Answers (λ r. r) result (spelt (find (spec.scope_of self.now)) written.now site.Variable) }
+    {
+        resolve(alloc, written, Site::Variable, self.levels.as_slice())
+    }
+
+    /// The mode of a parameter, a local or a result, which is written at `at`.
+    pub fn mode(&self, alloc: Global, at: At, written: &WrittenMode) -> Result<Mode, CheckFault>
+        ensures { Gives (λ m. m) result (spec.mode_in self.now at written.now) }
+    {
+        let resolved = self.resolved(alloc, written)?;
+        self.variable_by(at, resolved)
+    }
+
+    /// The fault of the first unfit record to which a mode leads.
+    fn unfit_record(&self, mode: &Mode) -> Option<CheckFault>
+        ensures { result ≡ unfit_record self.now.unfit mode.now }
+    {
+        unfit_record(self.unfit, mode)
+    }
+
+    /// The mode of a variable, which is written at `at`.
+    fn variable_by(&self, at: At, resolved: Resolved) -> Result<Mode, CheckFault>
+        ensures { Gives (λ m. m) result (spec.variable_by self.now.unfit at resolved) }
+    {
+        match resolved {
+            Resolved::Mode(mode) => match self.unfit_record(&mode) {
+                None => Ok(mode),
+                Some(fault) => Err(fault),
+            },
+            Resolved::BadLength => Err(CheckFault::LeftOut { form: 3, at }),
+        }
+    }
+}
+
+/// The label that a name is.
+fn label_by(at: At, meaning: Option<&Meaning>) -> Result<u16, CheckFault>
+    ensures { Gives (λ k. k) result (spec.label_by at (option_copied meaning.entry)) }
+{
+    match meaning {
+        None => Err(CheckFault::UnknownLabel(at)),
+        Some(meaning) => match meaning {
+            Meaning::Label(label) => Ok(*label),
+            Meaning::Svc(item, _) => {
+                if *item == 0 {
+                    return Err(CheckFault::LeftOut { form: 2, at });
+                }
+                Err(CheckFault::UnknownLabel(at))
+            }
+            _ => Err(CheckFault::UnknownLabel(at)),
+        },
+    }
+}
+
+/// One name more in a level: whether it was there already. Of two the first counts.
+pub fn declare<'a>(level: &mut Level<'a>, name: &'a [u8], meaning: Meaning) -> Result<bool, Memory>
+    ensures held { IfOk result (λ held. held ≡ spec.holds (names_of level.old) name.now) }
+    ensures declared { OnOk result (names_of level.new ≡ spec.declared name.now meaning (names_of level.old)) }
+{
+    if has_name(level, name) {
+        return Ok(true);
+    }
+    insert_new(level, name, meaning)?;
+    Ok(false)
+}
+
+fn has_name(level: &Level<'_>, name: &[u8]) -> bool
+    ensures { result ≡ spec.holds (names_of level.now) name.now }
+{
+    level.get(name).is_some()
+}
+
+/// Adds a name that isn't there.
+fn insert_new<'a>(level: &mut Level<'a>, name: &'a [u8], meaning: Meaning) -> Result<(), Memory>
+    requires { spec.holds (names_of level.now) name.now ≡ false }
+    ensures { OnOk result (names_of level.new ≡ names_of level.old ++ (name.now, meaning) ∷ []) }
+{
+    match level.insert(name, meaning) {
+        Ok(_) => Ok(()),
+        Err(_) => Err(Memory),
+    }
+}

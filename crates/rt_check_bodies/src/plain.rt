@@ -1,0 +1,154 @@
+//! The parts of statements that hold no statements.
+
+ghost use Rattle.std.specs.Prelude.{◌≡◌, IfOk, OnOk};
+ghost use Rattle.rt_tree_nodes.specs.declared.value.Value.{Value};
+ghost use Rattle.rt_exprs.specs.Outcomes.{Outcome, Gives};
+ghost use Rattle.rt_check_bodies.specs.Parts.{Gave};
+ghost use Rattle.rt_check_bodies.specs.Seen.{names_of};
+ghost use Rattle.rt_check_bodies.specs.Sights.{within};
+ghost use Rattle.rt_check_bodies.specs.Statements as spec;
+
+use crate::answer::Answer;
+use crate::{Names, Tally, declare, labels_in};
+use indexmap::IndexMap;
+use rt_exprs::{CheckFault, Level, Meaning};
+use rt_grammar::{At, Ident};
+use rt_modes::Mode;
+use rt_syntax::Control;
+use rt_syntax_exprs::Expr;
+use rt_tree_nodes::{Stat, Value};
+use rt_words::Memory;
+use std::alloc::Global;
+
+/// Where a loop starts, by what it goes on, and where it ends.
+#[derive(Drop)]
+pub struct Bounds {
+    pub start: Value,
+    pub step: Option<Value>,
+    pub end: Value,
+}
+
+/// The bounds of a FOR loop.
+pub fn bounds_of(
+    alloc: Global,
+    names: &Names<'_>,
+    tally: &mut Tally,
+    control: &Control,
+    limit: &Expr,
+) -> Result<Bounds, Memory>
+    ensures { IfOk result (λ b. Gave b tally.new (spec.bounds_in names.now control.now limit.now tally.old)) }
+{
+    let start = int(alloc, names, tally, &control.start)?;
+    let step = any_int(alloc, names, tally, &control.step)?;
+    let end = int(alloc, names, tally, limit)?;
+    Ok(Bounds { start, step, end })
+}
+
+/// Opens the level of a FOR loop, which has its variable.
+pub fn enter_loop<'a>(
+    alloc: Global,
+    names: &mut Names<'a>,
+    control: &'a Control,
+    first: u16,
+) -> Result<(), Memory>
+    ensures { OnOk result (names.new ≡ within (spec.variable_of control.now first) names.old) }
+{
+    let level = level_of(alloc, control, first)?;
+    names.enter(level)
+}
+
+fn level_of<'a>(alloc: Global, control: &'a Control, first: u16) -> Result<Level<'a>, Memory>
+    ensures { IfOk result (λ level. names_of level ≡ spec.variable_of control.now first) }
+{
+    let mut level = IndexMap::new(alloc);
+    declare(
+        &mut level,
+        control.name.name.as_slice(),
+        Meaning::Loop(first),
+    )?;
+    Ok(level)
+}
+
+/// GOTO.
+pub fn goto(names: &Names<'_>, tally: &mut Tally, name: &Ident) -> Result<Stat, Memory>
+    ensures { IfOk result (λ x. Gave x tally.new (spec.goto names.now name.now tally.old)) }
+{
+    let label = tally.label_or(names.label(name))?;
+    Ok(Stat::Goto(label))
+}
+
+/// SWITCH.
+pub fn switch(
+    alloc: Global,
+    names: &Names<'_>,
+    tally: &mut Tally,
+    value: &Expr,
+    labels: &[Ident],
+) -> Result<Stat, Memory>
+    ensures { IfOk result (λ x. Gave x tally.new (spec.switch names.now value.now labels.now tally.old)) }
+{
+    let value = int(alloc, names, tally, value)?;
+    let labels = labels_in(alloc, names, tally, labels)?;
+    Ok(Stat::Switch(value, labels))
+}
+
+/// An expression of which INT is wanted.
+pub fn int(
+    alloc: Global,
+    names: &Names<'_>,
+    tally: &mut Tally,
+    expr: &Expr,
+) -> Result<Value, Memory>
+    ensures { IfOk result (λ x. Gave x tally.new (spec.int_in names.now expr.now tally.old)) }
+{
+    tally.value_or(names.value(alloc, expr, &Mode::Int))
+}
+
+fn any_int(
+    alloc: Global,
+    names: &Names<'_>,
+    tally: &mut Tally,
+    expr: &Option<Expr>,
+) -> Result<Option<Value>, Memory>
+    ensures { IfOk result (λ x. Gave x tally.new (spec.any_int_in names.now expr.now tally.old)) }
+{
+    match expr {
+        None => Ok(None),
+        Some(expr) => {
+            let value = int(alloc, names, tally, expr)?;
+            Ok(Some(value))
+        }
+    }
+}
+
+/// A RETURN, which stands at `at`.
+pub fn returned(
+    alloc: Global,
+    names: &Names<'_>,
+    answer: &Answer,
+    value: &Option<Expr>,
+    at: At,
+) -> Result<Stat, CheckFault>
+    ensures { Gives (λ x. x) result (spec.returned answer.now names.now value.now at) }
+{
+    match answer {
+        Answer::Nothing => match value {
+            None => Ok(Stat::Return(None)),
+            Some(value) => return_of(names.value(alloc, value, &Mode::Label)),
+        },
+        Answer::Wanted(mode) => match value {
+            None => Err(CheckFault::NoResult(at)),
+            Some(value) => return_of(names.value(alloc, value, mode)),
+        },
+        Answer::Unfit => Ok(Stat::Return(None)),
+    }
+}
+
+fn return_of(value: Result<Value, CheckFault>) -> Result<Stat, CheckFault>
+    ensures { (o : Outcome Value) → Gives (λ v. v) value o → Gives (λ x. x) result (spec.return_of o) }
+{
+    match value {
+        Ok(value) => Ok(Stat::Return(Some(value))),
+        Err(fault) => Err(fault),
+    }
+}

@@ -1,0 +1,43 @@
+-- What is judged fit where names and tree agree stays within its items.
+use Rattle.std.proofs.Common.{◌≡◌, ◌+◌, true, Ok, refl, subst}
+use Rattle.rt_grammar.specs.declared.at.At.{At}
+use Rattle.rt_syntax_exprs.specs.declared.tree.Chain.{Chain}
+use Rattle.rt_syntax_exprs.specs.declared.tree.Cond.{Cond}
+use Rattle.rt_syntax_exprs.specs.declared.tree.Expr.{Expr}
+use Rattle.rt_bricks_laws.specs.Counts.{in_expr, in_chain, in_cond}
+use Rattle.rt_modes.specs.declared.mode.Mode.{Mode}
+use Rattle.rt_tree_nodes.specs.declared.statement.Test.{Test}
+use Rattle.rt_tree_nodes.specs.declared.value.Place.{Place}
+use Rattle.rt_tree_nodes.specs.declared.value.Value.{Value}
+use Rattle.rt_tree_nodes.specs.Scopes.{Scope}
+use Rattle.rt_tree_nodes.specs.Typing.{placed, valued}
+use Rattle.rt_exprs.specs.Modes.{want}
+use Rattle.rt_exprs.specs.Judging.{judged, target, val_target, alone}
+use Rattle.rt_exprs.proofs.Others.{SoundTarget, target_sound, SoundVal, val_target_sound, SoundCall, call_sound, SoundTest, cond_sound}
+use Rattle.rt_exprs.proofs.Sound.{SoundFit, sound_fit, expr_sound}
+use Rattle.rt_tree.specs.Statements.{Sight as Seen, tested}
+use Rattle.rt_syntax_exprs.specs.Joins.{joins_two}
+use Rattle.rt_check_bodies.specs.Sights.{Sight, scope_of, value_in, test_in}
+use Rattle.rt_check_bodies_laws.specs.Held.{Holds}
+use Rattle.rt_check_bodies_laws.proofs.Holding.{agrees}
+use Rattle.rt_check_bodies_laws.proofs.Conditions.{assigns_within, assigns_val_within, call_is_within, test_within}
+use Rattle.rt_check_bodies_laws.proofs.FittingWeights.{fits_within}
+use Rattle.rt_check_bodies_laws.specs.Parts.{ValueWithin, CallWithin, SpotWithin, ConditionWithin}
+use Rattle.rt_check_bodies_laws.specs.Refs.{AllFew}
+
+module _ (c : Scope) (few : AllFew c) (s : Sight) (seen : Seen) (k : Holds c s seen) where
+  pub value_judged : (e : Expr) (m : Mode) (x : Value) → value_in s e m ≡ Ok x → ValueWithin (in_expr e) (valued c x).tree
+  value_judged e m x h =
+      fits_within c (scope_of s) (agrees c s seen k) few (subst (SoundFit (scope_of s) e (want m)) h (sound_fit (scope_of s) e (want m) (judged (scope_of s) e) (expr_sound (scope_of s) e))) m refl
+
+  pub target_judged : (h : Chain) (x : Place × Mode) → target (scope_of s) h ≡ Ok x → SpotWithin (in_chain h) (placed c x.0).tree
+  target_judged h x e = assigns_within c (scope_of s) (agrees c s seen k) few (subst (SoundTarget (scope_of s) h) e (target_sound (scope_of s) h))
+
+  pub val_judged : (at : At) (h : Chain) (x : Place × Mode) → val_target (scope_of s) at h ≡ Ok x → SpotWithin (1 + in_chain h) (placed c x.0).tree
+  val_judged at h x e = assigns_val_within c (scope_of s) (agrees c s seen k) few (subst (SoundVal (scope_of s) at h) e (val_target_sound (scope_of s) at h))
+
+  pub call_judged : (h : Chain) (x : Value) → alone (scope_of s) h ≡ Ok x → CallWithin (in_chain h) (valued c x).tree
+  call_judged h x e = call_is_within c (scope_of s) (agrees c s seen k) few (subst (SoundCall (scope_of s) h) e (call_sound (scope_of s) h))
+
+  pub test_judged : (d : Cond) (t : Test) → joins_two d ≡ true → test_in s d ≡ Ok t → ConditionWithin (in_cond d) (tested c t).tree
+  test_judged d t j e = test_within c (scope_of s) (agrees c s seen k) few (subst (SoundTest (scope_of s) d) e (cond_sound (scope_of s) d)) j

@@ -1,0 +1,9 @@
+pub mod Held
+pub mod Fitting
+pub mod Refs
+pub mod Parts
+pub mod Weights
+pub mod Modes
+pub mod Named
+pub mod Within
+pub mod Standing

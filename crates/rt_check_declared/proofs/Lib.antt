@@ -1,0 +1,11 @@
+pub mod Joins
+pub mod Least
+pub mod ModeSteps
+pub mod Adding
+pub mod Tables
+pub mod Walks
+pub mod RecordSteps
+pub mod Judged
+pub mod Joined
+pub mod HeadingSteps
+pub mod Large

@@ -1,0 +1,12 @@
+pub mod Verdicts
+pub mod Written
+pub mod Unfit
+pub mod Names
+pub mod Naming
+pub mod Fields
+pub mod Records
+pub mod Heads
+pub mod Parts
+pub mod Bricks
+pub mod Totals
+pub mod Totaling

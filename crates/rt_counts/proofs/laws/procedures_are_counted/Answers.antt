@@ -1,5 +1,0 @@
-use Rattle.rt_counts.proofs.Bricks.{procedures_counted}
-use Rattle.rt_counts.proofs.laws.procedures_are_counted.Goals as goal
-
-pub returns : goal.returns
-returns c = procedures_counted

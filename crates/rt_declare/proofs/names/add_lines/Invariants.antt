@@ -1,7 +1,0 @@
-use Rattle.std.proofs.Common.{◌≡◌, drop}
-use Rattle.rt_declare.specs.Names as spec
-use Rattle.rt_declare.specs.Naming.{state, add_all}
-use Rattle.rt_declare.proofs.names.add_lines.Given as goal
-
-abbrev pub invariant-loop-line : goal.invariant-loop-line
-invariant-loop-line l = add_all (state l.names) (spec.lines_names l.brick l.number (drop l.line-index l.lines)) ≡ add_all (state l.fn.names) (spec.lines_names l.brick 0 l.lines)

@@ -1,5 +1,0 @@
-use Rattle.rt_derived.proofs.Deeper.{deeper_shallow}
-use Rattle.rt_derived.proofs.laws.deeper_is_shallow.Goals as goal
-
-pub returns : goal.returns
-returns c = deeper_shallow

@@ -1,5 +1,0 @@
-use Rattle.rt_derived.proofs.ShallowBricks.{modes_shallow}
-use Rattle.rt_derived.proofs.laws.modes_are_shallow.Goals as goal
-
-pub returns : goal.returns
-returns c = modes_shallow

@@ -1,5 +1,0 @@
-use Rattle.rt_derived.proofs.RangedBricks.{numbers_are_words}
-use Rattle.rt_derived.proofs.laws.numbers_are_words.Goals as goal
-
-pub returns : goal.returns
-returns c = numbers_are_words

@@ -1,5 +1,0 @@
-use Rattle.rt_derived.proofs.Strings.{some_strings_rise}
-use Rattle.rt_derived.proofs.laws.some_rise.Goals as goal
-
-pub returns : goal.returns
-returns c = some_strings_rise

@@ -1,5 +1,0 @@
-use Rattle.rt_derived.proofs.StringBricks.{strings_are_items}
-use Rattle.rt_derived.proofs.laws.strings_are_items.Goals as goal
-
-pub returns : goal.returns
-returns c = strings_are_items

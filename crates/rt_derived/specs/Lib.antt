@@ -1,4 +1,0 @@
-pub mod Laws
-pub mod Modes
-pub mod Strings
-pub mod Numbers

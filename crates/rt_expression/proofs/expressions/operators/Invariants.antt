@@ -1,6 +1,0 @@
-use Rattle.std.proofs.Common.{◌≡◌, ◌-◌}
-use Rattle.rt_expression.specs.ExpressionParser as reads
-use Rattle.rt_expression.proofs.expressions.operators.Given as goal
-
-abbrev pub invariant-loop-turn : goal.invariant-loop-turn
-invariant-loop-turn l = reads.operators l.context l.fn.items ≡ reads.more_operators l.context (l._turn-end - l._turn) l.found l.rest

@@ -1,5 +1,0 @@
-pub mod Tables
-pub mod Expressions
-pub mod Modes
-pub mod ExpressionParser
-pub mod ModeParser

@@ -1,0 +1,11 @@
+pub mod Layers
+pub mod Standing
+pub mod Wanted
+pub mod Suiting
+pub mod Links
+pub mod Operators
+pub mod Fitted
+pub mod Targets
+pub mod Tests
+pub mod Judged
+pub mod Passing

@@ -1,6 +1,0 @@
-use Rattle.std.proofs.Common.{◌≡◌, ◌++◌, drop, map}
-use Rattle.rt_headings.specs.Parts.{part}
-use Rattle.rt_headings.proofs.parts.add_parts.Given as goal
-
-abbrev pub invariant-loop-name : goal.invariant-loop-name
-invariant-loop-name l = l.parts ++ map (part l.line) (drop l.name-index l.names) ≡ l.initial.parts ++ map (part l.line) l.names

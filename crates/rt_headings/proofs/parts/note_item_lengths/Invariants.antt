@@ -1,9 +1,0 @@
-use Rattle.std.proofs.Common.{◌≡◌, drop}
-use Rattle.rt_written.specs.Verdicts.{with_faults}
-use Rattle.rt_headings.specs.Parts.{line_faults}
-use Rattle.rt_headings.specs.declared.parts.Line.TheVariants as line
-use Rattle.rt_declare.specs.Names.{idents}
-use Rattle.rt_headings.proofs.parts.note_item_lengths.Given as goal
-
-abbrev pub invariant-loop-item : goal.invariant-loop-item
-invariant-loop-item l = with_faults l.faults (line_faults line.BadLength (idents (drop l.item-index l.items))) ≡ with_faults l.initial.faults (line_faults line.BadLength (idents l.items))

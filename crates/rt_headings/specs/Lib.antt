@@ -1,4 +1,0 @@
-pub mod Parts
-pub mod Bricks
-pub mod Totals
-pub mod Totaling

@@ -1,5 +1,0 @@
-use Rattle.rt_judged.proofs.Whole.{module_fits}
-use Rattle.rt_judged.proofs.laws.modules_fit.Goals as goal
-
-pub returns : goal.returns
-returns g items m us t h = module_fits items m us t h

@@ -1,5 +1,0 @@
-use Rattle.rt_judged.proofs.Reading.{module_within}
-use Rattle.rt_judged.proofs.laws.modules_stay_within.Goals as goal
-
-pub returns : goal.returns
-returns g items m us t h = module_within items m us t h

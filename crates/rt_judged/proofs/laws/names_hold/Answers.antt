@@ -1,5 +1,0 @@
-use Rattle.rt_judged.proofs.Holding.{names_are_held}
-use Rattle.rt_judged.proofs.laws.names_hold.Goals as goal
-
-pub returns : goal.returns
-returns g items m us ls seen t h = names_are_held items m us ls seen t h

@@ -1,5 +1,0 @@
-use Rattle.rt_judged.proofs.Records.{records_are_fit}
-use Rattle.rt_judged.proofs.laws.records_fit.Goals as goal
-
-pub returns : goal.returns
-returns g items m us t h = records_are_fit items m us t h

@@ -1,5 +1,0 @@
-use Rattle.rt_kept.proofs.Running.{runs_keep}
-use Rattle.rt_kept.proofs.laws.runs_keep_types.Goals as goal
-
-pub returns : goal.returns
-returns c = runs_keep c.parts_suit_their_modes.ensures c.writes_keep_modes.ensures

@@ -1,5 +1,0 @@
-use Rattle.rt_kept.proofs.Entering.{world_fits}
-use Rattle.rt_kept.proofs.laws.systems_fit.Goals as goal
-
-pub returns : goal.returns
-returns c ps fits = world_fits ps fits

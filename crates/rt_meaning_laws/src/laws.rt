@@ -1,0 +1,68 @@
+//! The laws. Each is a function that does nothing, whose contract is the law.
+
+ghost use Rattle.rt_meaning_laws.specs.Laws as law;
+
+use rt_tree::{parts_suit_their_modes, writes_keep_modes};
+use rt_tree_laws::full_modes_open;
+
+/// A typed store stays typed: in every state of the source run of modules that fit the store is typed and each task fits, and
+/// no task ever lacks a value.
+pub fn stores_stay_typed()
+    ensures { law.StoresStayTyped }
+{
+    parts_suit_their_modes();
+    writes_keep_modes();
+    full_modes_open();
+}
+
+/// The invisible work of what fits lacks nothing, and the next visible step fits.
+pub fn work_fits()
+    ensures { law.WorkFits }
+{}
+
+/// What is read in a typed store is of the mode of its place, and the store stays typed where such a value is written.
+pub fn reads_and_writes_fit()
+    ensures reads { law.ReadsFit }
+    ensures writes { law.WritesKeep }
+{
+    parts_suit_their_modes();
+    writes_keep_modes();
+}
+
+/// A value of a mode of one module is of each mode of another with the same full mode: so arguments and results pass.
+pub fn values_pass()
+    ensures { law.ValuesPass }
+{}
+
+/// A visible step of a task that fits, over a typed store, lacks nothing, and it leaves a typed store and a task that fits.
+pub fn steps_keep_types()
+    ensures { law.StepsKeep }
+{
+    parts_suit_their_modes();
+    writes_keep_modes();
+}
+
+/// From a state that fits each state of the run fits, whatever ticks and steps come, and no task ever lacks a value.
+pub fn runs_keep_types()
+    ensures { law.RunsKeep }
+{
+    parts_suit_their_modes();
+    writes_keep_modes();
+}
+
+/// In the state in which a system of matched modules begins the store is typed, and each task fits.
+pub fn starts_fit()
+    ensures { law.StartsFit }
+{}
+
+/// In the world of a system that fits each procedure fits its mode.
+pub fn systems_fit()
+    ensures { law.SystemsFit }
+{}
+
+/// A system of matched modules whose nodes fit, and whose procedures name locals where these have a value, fits.
+pub fn modules_fit()
+    ensures { law.ModulesMakeSystems }
+{
+    full_modes_open();
+}

@@ -1,0 +1,34 @@
+-- Systems of modules of texts, and the law of all their runs.
+use Rattle.std.specs.Prelude.{◌≡◌, ℕ, List, Some}
+use Rattle.std.specs.List.{AllByRecursion}
+use Rattle.rt_tree_nodes.specs.declared.brick.ModuleParts.{ModuleParts}
+use Rattle.rt_items.specs.Ranges.{IsByte}
+use Rattle.rt_tree.specs.Stored.{System, module_of}
+use Rattle.rt_resolve.specs.Systems.{world}
+use Rattle.rt_meaning.specs.declared.begin.SourceTask.{SourceTask}
+use Rattle.rt_meaning.specs.Whole.{beginning}
+use Rattle.rt_meaning_laws.specs.Modules.{ModulesFit}
+use Rattle.rt_meaning_laws.specs.Runs.{StateFits, NoneLacks, Happening, after, MayHappen}
+use Rattle.rt_meaning_laws.specs.Starting.{TasksMatch}
+use Rattle.rt_resolve.specs.Matching.{Matched}
+use Rattle.rt_check.specs.Texts.{IsTree}
+
+-- The module is the typed tree of some text.
+pub record IsOfText (p : ModuleParts) : Type 0 where
+  pub text : List ℕ
+  pub bytes : AllByRecursion IsByte text
+  pub is_tree : IsTree text p
+
+-- So is each module of the system.
+abbrev pub AreOfTexts : System → Type 0
+AreOfTexts ps = (m : ℕ) (p : ModuleParts) → module_of ps m ≡ Some p → IsOfText p
+
+-- Modules of texts that match have all that the law of typed stores asks for.
+abbrev pub TextsMakeSystems : Type 0
+TextsMakeSystems = (ps : System) → AreOfTexts ps → Matched ps → ModulesFit ps
+
+-- A typed store stays typed: in every state of the source run of modules of texts that match, whatever ticks and steps come, the
+-- store is typed and each task fits, and no task lacks a value.
+abbrev pub StoresOfTextsStayTyped : Type 0
+StoresOfTextsStayTyped = (ps : System) (ts : List SourceTask) (hs : List Happening) → AreOfTexts ps → Matched ps → TasksMatch ps ts → MayHappen hs
+    → StateFits ps (world ps) (after (world ps) (beginning ps ts) hs) × NoneLacks (world ps) (after (world ps) (beginning ps ts) hs).tasks

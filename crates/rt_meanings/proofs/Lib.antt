@@ -1,4 +1,0 @@
-mod Lists
-mod Turned
-mod Spreading
-mod Walking

@@ -1,8 +1,0 @@
-use Rattle.std.proofs.Common.{◌≡◌, drop}
-use Rattle.rt_declare.specs.Naming.{plain}
-use Rattle.rt_names.specs.Seen.{names_of}
-use Rattle.rt_meanings.specs.Levels.{with_modes, mode_names}
-use Rattle.rt_meanings.proofs.levels.mode_level.Given as goal
-
-abbrev pub invariant-loop-number : goal.invariant-loop-number
-invariant-loop-number l = with_modes (names_of l.level) (drop l.number (plain l.names.table.entries)) ≡ mode_names (plain l.names.table.entries)

@@ -1,8 +1,0 @@
-use Rattle.std.proofs.Common.{◌≡◌, [], drop}
-use Rattle.rt_declare.specs.Naming.{plain}
-use Rattle.rt_names.specs.Seen.{names_of}
-use Rattle.rt_meanings.specs.Levels.{with_all}
-use Rattle.rt_meanings.proofs.levels.module_level.Given as goal
-
-abbrev pub invariant-loop-number : goal.invariant-loop-number
-invariant-loop-number l = with_all l.module.owns.now l.module.bricks.now (names_of l.level) (drop l.number (plain l.names.table.entries)) ≡ with_all l.module.owns.now l.module.bricks.now [] (plain l.names.table.entries)

@@ -1,6 +1,0 @@
-use Rattle.std.proofs.Common.{◌≡◌, ◌++◌, drop, map}
-use Rattle.rt_meanings.specs.Levels.{own_of}
-use Rattle.rt_meanings.proofs.supplied.own_bricks.Given as goal
-
-abbrev pub invariant-loop-brick : goal.invariant-loop-brick
-invariant-loop-brick l = l.owns ++ map own_of (drop l.brick-index l.bricks) ≡ map own_of l.bricks

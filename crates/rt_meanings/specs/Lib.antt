@@ -1,4 +1,0 @@
-pub mod Leads
-pub mod Spreading
-pub mod Levels
-pub mod Settled

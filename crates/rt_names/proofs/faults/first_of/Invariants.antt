@@ -1,6 +1,0 @@
-use Rattle.std.proofs.Common.{◌≡◌, None, drop}
-use Rattle.rt_written.specs.Verdicts.{with_faults}
-use Rattle.rt_names.proofs.faults.first_of.Given as goal
-
-abbrev pub invariant-loop-fault : goal.invariant-loop-fault
-invariant-loop-fault l = with_faults l.first (drop l.fault-index l.faults) ≡ with_faults None l.faults

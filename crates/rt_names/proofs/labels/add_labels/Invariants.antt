@@ -1,7 +1,0 @@
-use Rattle.std.proofs.Common.{◌≡◌, drop}
-use Rattle.rt_names.specs.Seen.{names_of}
-use Rattle.rt_names.specs.Parts.{labels_more}
-use Rattle.rt_names.proofs.labels.add_labels.Given as goal
-
-abbrev pub invariant-loop-label : goal.invariant-loop-label
-invariant-loop-label l = labels_more (names_of l.level) (drop l.label-index l.labels) l.tally ≡ labels_more (names_of l.initial.level) l.labels l.initial.tally

@@ -1,6 +1,0 @@
-use Rattle.std.proofs.Common.{◌≡◌, [], drop}
-use Rattle.rt_names.specs.Parts as spec
-use Rattle.rt_names.proofs.labels.numbers_from.Given as goal
-
-abbrev pub invariant-loop-label : goal.invariant-loop-label
-invariant-loop-label l = spec.numbers_from l.numbers l.next (drop l._label-index l.labels) ≡ spec.numbers_from [] l.first l.labels

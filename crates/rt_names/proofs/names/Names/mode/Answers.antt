@@ -1,8 +1,0 @@
-use Rattle.std.proofs.Common.{sym, subst}
-use Rattle.rt_operands.specs.Outcomes.{Outcome, Gives, ◌>>=◌}
-use Rattle.rt_written.specs.declared.written.Resolved.{Resolved}
-use Rattle.rt_names.specs.Sights.{variable_by}
-use Rattle.rt_names.proofs.names.Names.mode.Goals as goal
-
-pub returns : goal.returns
-returns c = subst (λ (o : Outcome Resolved). Gives (λ m. m) c.variable_by.result (o >>= variable_by c.args.self.now.unfit c.args.at)) (sym c.in_ok-resolved.ensures) c.variable_by.ensures

@@ -1,6 +1,0 @@
-mod Words
-mod Defaults
-mod Made
-mod Bricks
-mod Strings
-mod Whole

@@ -1,6 +1,0 @@
-pub mod Modes
-pub mod Outcomes
-pub mod Operands
-pub mod Names
-pub mod Following
-pub mod Indexed

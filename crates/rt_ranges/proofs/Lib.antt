@@ -1,3 +1,0 @@
-pub mod Throughout
-pub mod Meanings
-pub mod Expanded

@@ -1,9 +1,0 @@
-use Rattle.std.proofs.Common.{◌≡◌, ◌++◌, drop}
-use Rattle.rt_operands.specs.Names.{find_in}
-use Rattle.rt_records.specs.Heads.{definitions, heads}
-use Rattle.rt_records.specs.Records.{record_modes}
-use Rattle.rt_records.proofs.records.read_modes.Given as goal
-
-abbrev pub invariant-loop-declaration : goal.invariant-loop-declaration
-invariant-loop-declaration l = (l.read.records ++ definitions (find_in l.levels) (record_modes (drop l.declaration-index l.declarations)) ≡ definitions (find_in l.levels) (record_modes l.declarations))
-    × (l.read.heads ++ heads (find_in l.levels) (record_modes (drop l.declaration-index l.declarations)) ≡ heads (find_in l.levels) (record_modes l.declarations))

@@ -1,5 +1,0 @@
-use Rattle.rt_scoped.proofs.Modules.{modules_named}
-use Rattle.rt_scoped.proofs.laws.modules_are_named.Goals as goal
-
-pub returns : goal.returns
-returns c = modules_named

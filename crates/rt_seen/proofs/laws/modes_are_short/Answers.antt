@@ -1,5 +1,0 @@
-use Rattle.rt_seen.proofs.Modes.{all_short}
-use Rattle.rt_seen.proofs.laws.modes_are_short.Goals as goal
-
-pub returns : goal.returns
-returns c = all_short

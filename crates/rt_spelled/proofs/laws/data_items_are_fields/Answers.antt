@@ -1,5 +1,0 @@
-use Rattle.rt_spelled.proofs.Modules.{data_items_are_fields}
-use Rattle.rt_spelled.proofs.laws.data_items_are_fields.Goals as goal
-
-pub returns : goal.returns
-returns c = data_items_are_fields

@@ -1,7 +1,0 @@
-use Rattle.std.proofs.Common.{◌≡◌, drop}
-use Rattle.rt_names.specs.Seen.{names_of}
-use Rattle.rt_statements.specs.Procedures as spec
-use Rattle.rt_statements.proofs.parameters.add_group.Given as goal
-
-abbrev pub invariant-loop-name : goal.invariant-loop-name
-invariant-loop-name l = spec.group l.mode (names_of l.level) (drop l.name-index l.names) l.tally ≡ spec.group l.mode (names_of l.initial.level) l.names l.initial.tally

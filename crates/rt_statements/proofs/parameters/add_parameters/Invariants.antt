@@ -1,7 +1,0 @@
-use Rattle.std.proofs.Common.{◌≡◌, drop}
-use Rattle.rt_names.specs.Seen.{names_of}
-use Rattle.rt_statements.specs.Procedures as spec
-use Rattle.rt_statements.proofs.parameters.add_parameters.Given as goal
-
-abbrev pub invariant-loop-group : goal.invariant-loop-group
-invariant-loop-group l = spec.parameters l.names (names_of l.level) (drop l.group-index l.fields) l.tally ≡ spec.parameters l.names (names_of l.initial.level) l.fields l.initial.tally

@@ -1,5 +1,0 @@
-use Rattle.rt_typing.proofs.Telling.{full_modes_tell}
-use Rattle.rt_typing.proofs.laws.full_modes_tell_modes.Goals as goal
-
-pub returns : goal.returns
-returns c t m n names apart sm sn e = full_modes_tell t names apart m n sm sn e

@@ -1,4 +1,0 @@
-pub mod Agreeing
-pub mod Laws
-pub mod Texts
-pub mod Opened

@@ -1,9 +1,0 @@
-pub mod Trees
-pub mod Rows
-pub mod Followed
-pub mod Suited
-pub mod Reached
-pub mod Lengths
-pub mod Items
-pub mod Fitting
-pub mod Conditions

@@ -1,3 +1,0 @@
-pub mod Refs
-pub mod Parts
-pub mod Laws
