@@ -1,2 +1,3 @@
 mod Longer
 mod Placements
+mod Rising

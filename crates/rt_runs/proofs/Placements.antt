@@ -8,6 +8,9 @@ abbrev pub ticks_to : List ℕ → ℕ → ℕ
 ticks_to ps zero = ticks_after ps 0
 ticks_to ps (suc k) = ticks_to ps k + ticks_after ps (suc k)
 
+pub to_next : (ps : List ℕ) (k : ℕ) → ticks_to ps (k + 1) ≡ ticks_to ps k + ticks_after ps (k + 1)
+to_next ps k = let e : k + 1 ≡ suc k = omega arith in rw e refl
+
 abbrev pub one_if : Bool → ℕ
 one_if true = 1
 one_if false = 0

@@ -1,6 +1,6 @@
 -- The source run: the tasks over one store, by the supervisor's rules, each tick after a stated number of steps.
 use Rattle.std.specs.Prelude.{ℕ, zero, suc, Bool, true, ◌&&◌, ◌==◌, nat_le, if◌then◌else◌, List, [], ◌∷◌, ◌++◌, Option, Some, None, slice_get}
-use Rattle.rt_nodes.specs.declared.brick.ModuleParts.{ModuleParts}
+use Rattle.rt_tree_nodes.specs.declared.brick.ModuleParts.{ModuleParts}
 use Rattle.rt_resolve.specs.World.{World}
 use Rattle.rt_resolve.specs.Systems.{world}
 use Rattle.rt_meaning.specs.declared.begin.SourceTask.{SourceTask}

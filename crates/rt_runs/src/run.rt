@@ -1,6 +1,6 @@
 //! The source run of a state, for given placements of ticks, console input and number of steps.
 
-ghost use Rattle.std.specs.Prelude.{◌≡◌, ◌+◌, ◌*◌, ◌-◌, ◌^◌, ◌<◌, ◌≤◌, All, length, IfOk, true, Some, None, slice_get};
+ghost use Rattle.std.specs.Prelude.{◌≡◌, ◌+◌, ◌*◌, ◌-◌, ◌^◌, ◌<◌, ◌≤◌, ℕ, All, length, drop, IfOk, true, Some, None, slice_get};
 ghost use Rattle.rt_meaning.specs.Roots.{priorities};
 ghost use Rattle.rt_meaning.specs.Source as source;
 ghost use Rattle.rt_resolve.specs.Systems.{IsNumbered};
@@ -19,22 +19,21 @@ pub struct Reached {
     pub output: Bytes,
 }
 
-// How many ticks fall after so many steps.
-fn ticks_after(placements: &[u64], steps: u64) -> usize
-    ensures value { result ≡ run.ticks_after placements.now steps }
-    ensures few { result ≤ length placements.now }
+// Where the ticks end that fall after so many steps, of those from `next` on, where none is left of before.
+fn past(placements: &[u64], next: usize, steps: u64) -> usize
+    requires { next ≤ length placements.now }
+    ensures least { next ≤ result }
+    ensures most { result ≤ length placements.now }
+    ensures value { (n : ℕ) → run.rise_from steps n (drop next placements.now) ≡ true → result ≡ next + run.ticks_after (drop next placements.now) steps }
+    ensures rest { (n : ℕ) → run.rise_from steps n (drop next placements.now) ≡ true → run.rise_from (steps + 1) n (drop result placements.now) ≡ true }
+    ensures others { (s : ℕ) → steps < s → run.ticks_after (drop result placements.now) s ≡ run.ticks_after (drop next placements.now) s }
 {
-    match placements {
-        [] => 0,
-        [placement, rest @ ..] => {
-            let others = ticks_after(rest, steps);
-            if *placement == steps {
-                others + 1
-            } else {
-                others
-            }
+    for at in next..placements.len() {
+        if placements[at] != steps {
+            return at;
         }
     }
+    placements.len()
 }
 
 // Takes so many ticks.
@@ -93,18 +92,14 @@ fn turn(
 pub fn are_placements(placements: &[u64], steps: u64) -> bool
     ensures { result ≡ run.are_placements placements.now steps }
 {
-    rise_from(0, steps, placements)
-}
-
-fn rise_from(least: u64, steps: u64, placements: &[u64]) -> bool
-    ensures { result ≡ run.rise_from least steps placements.now }
-{
-    match placements {
-        [] => true,
-        [placement, rest @ ..] => {
-            least <= *placement && *placement <= steps && rise_from(*placement, steps, rest)
+    let mut least = 0;
+    for placement in placements {
+        if *placement < least || *placement > steps {
+            return false;
         }
+        least = *placement;
     }
+    true
 }
 
 /// The run of so many steps from a state on, with a tick after each of these numbers of steps; `None` exactly where these fall
@@ -135,15 +130,19 @@ fn run_from(
     input: &[u8],
     steps: u64,
 ) -> Result<Option<Reached>, Memory>
+    requires rise { run.are_placements placements.now steps ≡ true }
     requires stamp { (source.state_of state).rules.stamp + 33 * (length placements.now + steps) < 2 ^ 63 }
     requires clock { (source.state_of state).rules.clock + length placements.now < 2 ^ 32 - 1 }
     ensures { IfOk result (λ r. code.reached r ≡ run.after (source.world_of state) (source.state_of state) placements.now input.now steps) }
 {
     let mut state = state;
     let mut output = List::new(alloc, 0)?;
-    take_ticks(&mut state, ticks_after(placements, 0));
+    let mut next = past(placements, 0, 0);
+    take_ticks(&mut state, next);
     for done in 0..steps {
-        let ticks = ticks_after(placements, done + 1);
+        let end = past(placements, next, done + 1);
+        let ticks = end - next;
+        next = end;
         if !turn(alloc, &mut state, &mut output, input, ticks)? {
             return Ok(None);
         }

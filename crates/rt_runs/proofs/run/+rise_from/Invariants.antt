@@ -1,5 +1,0 @@
-use Rattle.std.proofs.Common.{length}
-use Rattle.rt_runs.proofs.run.+rise_from.Given as goal
-
-abbrev pub decreases-rise_from : goal.decreases-rise_from
-decreases-rise_from l = length l.placements.now
