@@ -48,20 +48,37 @@ fn complete(i: Instr, words: &[u16]) -> Option<(Instr, u8)>
     ensures { result ≡ completed i words.now }
 {
     match i {
-        Instr::Double(op, size, s, d) => {
+        Instr::Double {
+            op,
+            size,
+            source: s,
+            target: d,
+        } => {
             let n = count_of(s);
             let source = fill(s, words, 1)?;
             let target = fill(d, words, 1 + n)?;
             Some((
-                Instr::Double(op, size, source, target),
+                Instr::Double {
+                    op,
+                    size,
+                    source,
+                    target,
+                },
                 (1 + n + count_of(d)) as u8,
             ))
         }
-        Instr::Sum(op, s, d) => {
+        Instr::Sum {
+            op,
+            source: s,
+            target: d,
+        } => {
             let n = count_of(s);
             let source = fill(s, words, 1)?;
             let target = fill(d, words, 1 + n)?;
-            Some((Instr::Sum(op, source, target), (1 + n + count_of(d)) as u8))
+            Some((
+                Instr::Sum { op, source, target },
+                (1 + n + count_of(d)) as u8,
+            ))
         }
         Instr::Single(op, size, d) => {
             let target = fill(d, words, 1)?;

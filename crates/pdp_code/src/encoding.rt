@@ -3,24 +3,8 @@ ghost use Rattle.std.specs.Prelude.{◌≡◌, ◌+◌, ◌<◌, ◌≤◌, ◌�
 ghost use Rattle.pdp_code.specs.Code.{reg_code, pointer_code, operand_code, operand_words, size_code, double_code, sum_code, single_code, word_code, register_code, condition_code, bit_code, first_word, words_of, IsCodable};
 
 use crate::instruction::{
-    Condition, DoubleOp, Instr, Operand, Pointer, Reg, RegisterOp, SingleOp, Size, SumOp, WordOp,
+    Condition, DoubleOp, Instr, Operand, Pointer, RegisterOp, SingleOp, Size, SumOp, WordOp,
 };
-
-fn number(r: Reg) -> u16
-    ensures value { result ≡ reg_code r }
-    ensures below { result < 8 }
-{
-    match r {
-        Reg::R0 => 0,
-        Reg::R1 => 1,
-        Reg::R2 => 2,
-        Reg::R3 => 3,
-        Reg::R4 => 4,
-        Reg::R5 => 5,
-        Reg::Sp => 6,
-        Reg::Pc => 7,
-    }
-}
 
 fn pointer_number(p: Pointer) -> u16
     ensures value { result ≡ pointer_code p }
@@ -42,16 +26,16 @@ fn bits(o: Operand) -> u16
     ensures below { result < 64 }
 {
     match o {
-        Operand::Register(r) => number(r),
-        Operand::Deferred(r) => 8 + number(r),
-        Operand::Increment(p) => 16 + pointer_number(p),
-        Operand::IncrementDeferred(p) => 24 + pointer_number(p),
-        Operand::Decrement(r) => 32 + number(r),
-        Operand::DecrementDeferred(r) => 40 + number(r),
-        Operand::Index(r, _) => 48 + number(r),
-        Operand::IndexDeferred(r, _) => 56 + number(r),
-        Operand::Immediate(_) => 23,
-        Operand::Absolute(_) => 31,
+        Operand::Register(r) => r.number(),
+        Operand::Deferred(r) => 0o10 + r.number(),
+        Operand::Increment(p) => 0o20 + pointer_number(p),
+        Operand::IncrementDeferred(p) => 0o30 + pointer_number(p),
+        Operand::Decrement(r) => 0o40 + r.number(),
+        Operand::DecrementDeferred(r) => 0o50 + r.number(),
+        Operand::Index(r, _) => 0o60 + r.number(),
+        Operand::IndexDeferred(r, _) => 0o70 + r.number(),
+        Operand::Immediate(_) => 0o27,
+        Operand::Absolute(_) => 0o37,
     }
 }
 
@@ -74,7 +58,7 @@ fn sum_number(op: SumOp) -> u16
 {
     match op {
         SumOp::Add => 6,
-        SumOp::Sub => 14,
+        SumOp::Sub => 0o16,
     }
 }
 
@@ -83,18 +67,18 @@ fn single_number(op: SingleOp) -> u16
     ensures below { result < 512 }
 {
     match op {
-        SingleOp::Clr => 40,
-        SingleOp::Com => 41,
-        SingleOp::Inc => 42,
-        SingleOp::Dec => 43,
-        SingleOp::Neg => 44,
-        SingleOp::Adc => 45,
-        SingleOp::Sbc => 46,
-        SingleOp::Tst => 47,
-        SingleOp::Ror => 48,
-        SingleOp::Rol => 49,
-        SingleOp::Asr => 50,
-        SingleOp::Asl => 51,
+        SingleOp::Clr => 0o50,
+        SingleOp::Com => 0o51,
+        SingleOp::Inc => 0o52,
+        SingleOp::Dec => 0o53,
+        SingleOp::Neg => 0o54,
+        SingleOp::Adc => 0o55,
+        SingleOp::Sbc => 0o56,
+        SingleOp::Tst => 0o57,
+        SingleOp::Ror => 0o60,
+        SingleOp::Rol => 0o61,
+        SingleOp::Asr => 0o62,
+        SingleOp::Asl => 0o63,
     }
 }
 
@@ -104,7 +88,7 @@ fn word_number(op: WordOp) -> u16
 {
     match op {
         WordOp::Swab => 3,
-        WordOp::Sxt => 55,
+        WordOp::Sxt => 0o67,
     }
 }
 
@@ -113,11 +97,11 @@ fn register_number(op: RegisterOp) -> u16
     ensures below { result < 127 }
 {
     match op {
-        RegisterOp::Mul => 56,
-        RegisterOp::Div => 57,
-        RegisterOp::Ash => 58,
-        RegisterOp::Ashc => 59,
-        RegisterOp::Xor => 60,
+        RegisterOp::Mul => 0o70,
+        RegisterOp::Div => 0o71,
+        RegisterOp::Ash => 0o72,
+        RegisterOp::Ashc => 0o73,
+        RegisterOp::Xor => 0o74,
     }
 }
 
@@ -133,14 +117,14 @@ fn condition_number(op: Condition) -> u16
         Condition::Less => 5,
         Condition::Greater => 6,
         Condition::AtMost => 7,
-        Condition::Plus => 128,
-        Condition::Minus => 129,
-        Condition::Higher => 130,
-        Condition::LowerSame => 131,
-        Condition::NoOverflow => 132,
-        Condition::Overflow => 133,
-        Condition::NoCarry => 134,
-        Condition::Carry => 135,
+        Condition::Plus => 0o200,
+        Condition::Minus => 0o201,
+        Condition::Higher => 0o202,
+        Condition::LowerSame => 0o203,
+        Condition::NoOverflow => 0o204,
+        Condition::Overflow => 0o205,
+        Condition::NoCarry => 0o206,
+        Condition::Carry => 0o207,
     }
 }
 
@@ -165,7 +149,7 @@ fn bit(b: bool) -> u16
 pub fn flags_code(u: bool, n: bool, z: bool, v: bool, c: bool) -> u16
     ensures { result ≡ first_word (Instr.Flags u n z v c) }
 {
-    160 + (bit(u) * 16 + (bit(n) * 8 + (bit(z) * 4 + (bit(v) * 2 + bit(c)))))
+    0o240 + (bit(u) * 0o20 + (bit(n) * 0o10 + (bit(z) * 4 + (bit(v) * 2 + bit(c)))))
 }
 
 /// The first word of an instruction.
@@ -174,19 +158,35 @@ fn first_code(i: &Instr) -> u16
     ensures { result ≡ first_word i.now }
 {
     match *i {
-        Instr::Double(op, size, s, d) => (size_number(size) * 8 + double_number(op)) * 4096
-            + (bits(s) * 64 + bits(d)),
-        Instr::Sum(op, s, d) => sum_number(op) * 4096 + (bits(s) * 64 + bits(d)),
-        Instr::Single(op, size, d) => (size_number(size) * 512 + single_number(op)) * 64 + bits(d),
-        Instr::OnWord(op, d) => word_number(op) * 64 + bits(d),
-        Instr::OnRegister(op, r, s) => register_number(op) * 512 + (number(r) * 64 + bits(s)),
-        Instr::Branch(c, n) => condition_number(c) * 256 + n as u16,
-        Instr::Loop(r, n) => 32256 + (number(r) * 64 + n as u16),
-        Instr::Jump(d) => 64 + bits(d),
-        Instr::Call(r, d) => 2048 + (number(r) * 64 + bits(d)),
-        Instr::Return(r) => 128 + number(r),
-        Instr::Trap(n) => 35072 + n as u16,
-        Instr::Flags(u, n, z, v, c) => flags_code(u, n, z, v, c),
+        Instr::Double {
+            op,
+            size,
+            source: s,
+            target: d,
+        } => (size_number(size) * 0o10 + double_number(op)) * 0o10000 + (bits(s) * 0o100 + bits(d)),
+        Instr::Sum {
+            op,
+            source: s,
+            target: d,
+        } => sum_number(op) * 0o10000 + (bits(s) * 0o100 + bits(d)),
+        Instr::Single(op, size, d) => (size_number(size) * 0o1000 + single_number(op)) * 0o100
+            + bits(d),
+        Instr::OnWord(op, d) => word_number(op) * 0o100 + bits(d),
+        Instr::OnRegister(op, r, s) => register_number(op) * 0o1000
+            + (r.number() * 0o100 + bits(s)),
+        Instr::Branch(c, n) => condition_number(c) * 0o400 + n as u16,
+        Instr::Loop(r, n) => 0o77000 + (r.number() * 0o100 + n as u16),
+        Instr::Jump(d) => 0o100 + bits(d),
+        Instr::Call(r, d) => 0o4000 + (r.number() * 0o100 + bits(d)),
+        Instr::Return(r) => 0o200 + r.number(),
+        Instr::Trap(n) => 0o104400 + n as u16,
+        Instr::Flags {
+            sets: u,
+            negative: n,
+            zero: z,
+            overflow: v,
+            carry: c,
+        } => flags_code(u, n, z, v, c),
     }
 }
 
@@ -242,8 +242,16 @@ pub fn encode(i: &Instr) -> ([u16; 3], u8)
 {
     let w = first_code(i);
     match *i {
-        Instr::Double(_, _, s, d) => with_two(w, s, d),
-        Instr::Sum(_, s, d) => with_two(w, s, d),
+        Instr::Double {
+            source: s,
+            target: d,
+            ..
+        } => with_two(w, s, d),
+        Instr::Sum {
+            source: s,
+            target: d,
+            ..
+        } => with_two(w, s, d),
         Instr::Single(_, _, d) => with_one(w, d),
         Instr::OnWord(_, d) => with_one(w, d),
         Instr::OnRegister(_, _, s) => with_one(w, s),

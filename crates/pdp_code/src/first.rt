@@ -40,8 +40,8 @@ fn pointer(n: u16) -> Pointer
 fn operand(n: u16) -> Operand
     ensures { result ≡ operand_of n }
 {
-    let number = n % 8;
-    match n / 8 {
+    let number = n % 0o10;
+    match n / 0o10 {
         0 => Operand::Register(register(number)),
         1 => Operand::Deferred(register(number)),
         2 => if number == 7 {
@@ -79,7 +79,7 @@ fn sum(n: u16) -> Option<SumOp>
 {
     match n {
         6 => Some(SumOp::Add),
-        14 => Some(SumOp::Sub),
+        0o16 => Some(SumOp::Sub),
         _ => None,
     }
 }
@@ -88,18 +88,18 @@ fn single(n: u16) -> Option<SingleOp>
     ensures { result ≡ single_of n }
 {
     match n {
-        40 => Some(SingleOp::Clr),
-        41 => Some(SingleOp::Com),
-        42 => Some(SingleOp::Inc),
-        43 => Some(SingleOp::Dec),
-        44 => Some(SingleOp::Neg),
-        45 => Some(SingleOp::Adc),
-        46 => Some(SingleOp::Sbc),
-        47 => Some(SingleOp::Tst),
-        48 => Some(SingleOp::Ror),
-        49 => Some(SingleOp::Rol),
-        50 => Some(SingleOp::Asr),
-        51 => Some(SingleOp::Asl),
+        0o50 => Some(SingleOp::Clr),
+        0o51 => Some(SingleOp::Com),
+        0o52 => Some(SingleOp::Inc),
+        0o53 => Some(SingleOp::Dec),
+        0o54 => Some(SingleOp::Neg),
+        0o55 => Some(SingleOp::Adc),
+        0o56 => Some(SingleOp::Sbc),
+        0o57 => Some(SingleOp::Tst),
+        0o60 => Some(SingleOp::Ror),
+        0o61 => Some(SingleOp::Rol),
+        0o62 => Some(SingleOp::Asr),
+        0o63 => Some(SingleOp::Asl),
         _ => None,
     }
 }
@@ -109,7 +109,7 @@ fn on_word(n: u16) -> Option<WordOp>
 {
     match n {
         3 => Some(WordOp::Swab),
-        55 => Some(WordOp::Sxt),
+        0o67 => Some(WordOp::Sxt),
         _ => None,
     }
 }
@@ -118,11 +118,11 @@ fn on_register(n: u16) -> Option<RegisterOp>
     ensures { result ≡ register_of n }
 {
     match n {
-        56 => Some(RegisterOp::Mul),
-        57 => Some(RegisterOp::Div),
-        58 => Some(RegisterOp::Ash),
-        59 => Some(RegisterOp::Ashc),
-        60 => Some(RegisterOp::Xor),
+        0o70 => Some(RegisterOp::Mul),
+        0o71 => Some(RegisterOp::Div),
+        0o72 => Some(RegisterOp::Ash),
+        0o73 => Some(RegisterOp::Ashc),
+        0o74 => Some(RegisterOp::Xor),
         _ => None,
     }
 }
@@ -138,14 +138,14 @@ fn condition(n: u16) -> Option<Condition>
         5 => Some(Condition::Less),
         6 => Some(Condition::Greater),
         7 => Some(Condition::AtMost),
-        128 => Some(Condition::Plus),
-        129 => Some(Condition::Minus),
-        130 => Some(Condition::Higher),
-        131 => Some(Condition::LowerSame),
-        132 => Some(Condition::NoOverflow),
-        133 => Some(Condition::Overflow),
-        134 => Some(Condition::NoCarry),
-        135 => Some(Condition::Carry),
+        0o200 => Some(Condition::Plus),
+        0o201 => Some(Condition::Minus),
+        0o202 => Some(Condition::Higher),
+        0o203 => Some(Condition::LowerSame),
+        0o204 => Some(Condition::NoOverflow),
+        0o205 => Some(Condition::Overflow),
+        0o206 => Some(Condition::NoCarry),
+        0o207 => Some(Condition::Carry),
         _ => None,
     }
 }
@@ -160,30 +160,29 @@ fn size(n: u16) -> Size
 fn other(w: u16) -> Option<Instr>
     ensures { result ≡ other_first w }
 {
-    if w / 512 == 63 {
-        return Some(Instr::Loop(register(w / 64 % 8), (w % 64) as u8));
+    if w / 0o1000 == 0o77 {
+        return Some(Instr::Loop(register(w / 0o100 % 0o10), (w % 0o100) as u8));
     }
-    if w / 64 == 1 {
-        return Some(Instr::Jump(operand(w % 64)));
+    if w / 0o100 == 1 {
+        return Some(Instr::Jump(operand(w % 0o100)));
     }
-    if w / 512 == 4 {
-        return Some(Instr::Call(register(w / 64 % 8), operand(w % 64)));
+    if w / 0o1000 == 4 {
+        return Some(Instr::Call(register(w / 0o100 % 0o10), operand(w % 0o100)));
     }
-    if w / 8 == 16 {
-        return Some(Instr::Return(register(w % 8)));
+    if w / 0o10 == 0o20 {
+        return Some(Instr::Return(register(w % 0o10)));
     }
-    if w / 256 == 137 {
-        return Some(Instr::Trap((w % 256) as u8));
+    if w / 0o400 == 0o211 {
+        return Some(Instr::Trap((w % 0o400) as u8));
     }
-    if w / 32 == 5 {
-        let sets = w / 16 % 2 == 1;
-        return Some(Instr::Flags(
-            sets,
-            w / 8 % 2 == 1,
-            w / 4 % 2 == 1,
-            w / 2 % 2 == 1,
-            w % 2 == 1,
-        ));
+    if w / 0o40 == 5 {
+        return Some(Instr::Flags {
+            sets: w / 0o20 % 2 == 1,
+            negative: w / 0o10 % 2 == 1,
+            zero: w / 4 % 2 == 1,
+            overflow: w / 2 % 2 == 1,
+            carry: w % 2 == 1,
+        });
     }
     None
 }
@@ -192,23 +191,32 @@ fn other(w: u16) -> Option<Instr>
 pub fn first(w: u16) -> Option<Instr>
     ensures { result ≡ first_of w }
 {
-    if let Some(op) = double(w / 4096 % 8) {
-        return Some(Instr::Double(op, size(w / 32768), operand(w / 64 % 64), operand(w % 64)));
+    if let Some(op) = double(w / 0o10000 % 0o10) {
+        return Some(Instr::Double {
+            op,
+            size: size(w / 0o100000),
+            source: operand(w / 0o100 % 0o100),
+            target: operand(w % 0o100),
+        });
     }
-    if let Some(op) = sum(w / 4096) {
-        return Some(Instr::Sum(op, operand(w / 64 % 64), operand(w % 64)));
+    if let Some(op) = sum(w / 0o10000) {
+        return Some(Instr::Sum {
+            op,
+            source: operand(w / 0o100 % 0o100),
+            target: operand(w % 0o100),
+        });
     }
-    if let Some(op) = single(w / 64 % 512) {
-        return Some(Instr::Single(op, size(w / 32768), operand(w % 64)));
+    if let Some(op) = single(w / 0o100 % 0o1000) {
+        return Some(Instr::Single(op, size(w / 0o100000), operand(w % 0o100)));
     }
-    if let Some(op) = on_word(w / 64) {
-        return Some(Instr::OnWord(op, operand(w % 64)));
+    if let Some(op) = on_word(w / 0o100) {
+        return Some(Instr::OnWord(op, operand(w % 0o100)));
     }
-    if let Some(op) = on_register(w / 512) {
-        return Some(Instr::OnRegister(op, register(w / 64 % 8), operand(w % 64)));
+    if let Some(op) = on_register(w / 0o1000) {
+        return Some(Instr::OnRegister(op, register(w / 0o100 % 0o10), operand(w % 0o100)));
     }
-    if let Some(taken) = condition(w / 256) {
-        return Some(Instr::Branch(taken, (w % 256) as u8));
+    if let Some(taken) = condition(w / 0o400) {
+        return Some(Instr::Branch(taken, (w % 0o400) as u8));
     }
     other(w)
 }

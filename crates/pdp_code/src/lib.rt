@@ -3,6 +3,7 @@
 //! - [`decode`]: the instruction that begins some words, and how many of them it has.
 //! - [`encode`]: the words of an instruction. The two go both ways.
 //! - [`print_instr`]: its text, as a listing has it.
+//! - [`laws`]: that these two and `first::first` have the same codes.
 //! - [`first::first`]: the instruction that a first word begins, with 0 for each word that follows, for a machine that
 //!   fetches those words in their turn.
 //!
@@ -14,9 +15,8 @@ mod decoding;
 mod encoding;
 pub mod first;
 pub mod instruction;
+pub mod laws;
 mod printing;
-#[cfg(test)]
-mod tests;
 
 pub use decoding::decode;
 pub use encoding::encode;

@@ -306,11 +306,20 @@ fn line_of(i: Instr) -> Line
     ensures { result.bytes ≡ text_of i }
 {
     match i {
-        Instr::Double(op, size, s, d) => {
+        Instr::Double {
+            op,
+            size,
+            source: s,
+            target: d,
+        } => {
             let source = operand(s);
             two(double(op), size, source.as_str(), operand(d).as_str())
         }
-        Instr::Sum(op, s, d) => {
+        Instr::Sum {
+            op,
+            source: s,
+            target: d,
+        } => {
             let source = operand(s);
             two(sum(op), Size::Word, source.as_str(), operand(d).as_str())
         }
@@ -328,7 +337,13 @@ fn line_of(i: Instr) -> Line
         Instr::Call(r, d) => two("JSR", Size::Word, register(r), operand(d).as_str()),
         Instr::Return(r) => one("RTS", Size::Word, register(r)),
         Instr::Trap(n) => one("TRAP", Size::Word, decimal_after("", n as u16).as_str()),
-        Instr::Flags(u, n, z, v, c) => {
+        Instr::Flags {
+            sets: u,
+            negative: n,
+            zero: z,
+            overflow: v,
+            carry: c,
+        } => {
             one(
                 "FLAGS",
                 Size::Word,

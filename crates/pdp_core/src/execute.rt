@@ -158,7 +158,7 @@ fn clear<B: Bus>(bus: &mut B, regs: &mut Regs, size: Size, d: Place) -> Result<(
     ensures err { OnErr result (B.world bus.new ≡ B.world bus.old) }
     ensures made { B.accesses bus.new ≡ store_made size d (B.accesses bus.old) }
 {
-    let _least = limit_of(size);
+    prove!(limit_of(size) > 0);
     set_flags(regs, false, true, false, false);
     store_at(bus, size, regs, d, 0)
 }
@@ -475,8 +475,17 @@ fn perform<B: Bus>(bus: &mut B, regs: &mut Regs, at: u16, i: Instr) -> Result<St
     ensures made { B.accesses bus.new ≡ perform_made at (B.world bus.old) regs.old i (B.accesses bus.old) }
 {
     match i {
-        Instr::Double(op, size, s, d) => do_double(bus, regs, op, size, s, d),
-        Instr::Sum(op, s, d) => do_sum(bus, regs, op, s, d),
+        Instr::Double {
+            op,
+            size,
+            source: s,
+            target: d,
+        } => do_double(bus, regs, op, size, s, d),
+        Instr::Sum {
+            op,
+            source: s,
+            target: d,
+        } => do_sum(bus, regs, op, s, d),
         Instr::Single(op, size, d) => do_single(bus, regs, op, size, d),
         Instr::OnWord(op, d) => do_word(bus, regs, op, d),
         Instr::OnRegister(op, r, s) => do_register(bus, regs, at, op, r, s),
@@ -495,7 +504,13 @@ fn perform<B: Bus>(bus: &mut B, regs: &mut Regs, at: u16, i: Instr) -> Result<St
             Ok(Stop::Went)
         }
         Instr::Trap(n) => ask(at, n),
-        Instr::Flags(u, n, z, v, c) => {
+        Instr::Flags {
+            sets: u,
+            negative: n,
+            zero: z,
+            overflow: v,
+            carry: c,
+        } => {
             mark(regs, u, n, z, v, c);
             Ok(Stop::Went)
         }

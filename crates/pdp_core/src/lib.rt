@@ -2,7 +2,7 @@
 //!
 //! - [`step`]: one instruction, which is the definition `execute` for any [`Bus`].
 //! - [`Bus`]: a memory with the leave that a task has to use it. [`Protection`] says which parts are a task's.
-//! - [`laws`]: what the effects mean for the signed numbers that words stand for.
+//! - [`laws`]: what the effects mean for the numbers, signed and unsigned, that words and bytes stand for.
 #![tactic(auto)]
 
 pub mod cpu;

@@ -18,16 +18,7 @@ pub fn index(r: Reg) -> usize
     ensures value { result ≡ reg_code r }
     ensures below { result < 8 }
 {
-    match r {
-        Reg::R0 => 0,
-        Reg::R1 => 1,
-        Reg::R2 => 2,
-        Reg::R3 => 3,
-        Reg::R4 => 4,
-        Reg::R5 => 5,
-        Reg::Sp => 6,
-        Reg::Pc => 7,
-    }
+    usize::from(r.number())
 }
 
 /// A register's word.

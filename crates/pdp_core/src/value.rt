@@ -158,7 +158,7 @@ fn right(size: Size, y: u16, top: bool) -> u16
     ensures value { result ≡ y / 2 + half_if size top }
     ensures below { result < limit size }
 {
-    let _most = half_of(size);
+    prove!(half_of(size) > 0);
     y / 2 + half_where(size, top)
 }
 
@@ -190,7 +190,7 @@ pub fn changed(op: SingleOp, size: Size, c: bool, y: u16) -> u16
     ensures value { result ≡ single_value op size c y }
     ensures below { result < limit size }
 {
-    let _least = limit_of(size);
+    prove!(limit_of(size) > 0);
     match op {
         SingleOp::Clr => 0,
         SingleOp::Com => complement(size, y),

@@ -5,9 +5,6 @@ ghost use Rattle.std.specs.Prelude.{◌≡◌, ℕ, ◌+◌, ◌*◌, ◌%◌, �
 ghost use Rattle.pdp_core.specs.World.{word_at};
 ghost use Rattle.pdp_core.specs.Protection.{protected};
 
-#[cfg(test)]
-mod tests;
-
 use pdp_core::{Bus, MEMORY_END, Protection, Refused};
 use rt_words::Memory;
 use std::alloc::Global;
