@@ -10,17 +10,17 @@ mod lookup;
 mod mem_sink;
 mod mem_source;
 mod mem_store;
+mod put;
 mod shelf;
 mod sink;
 mod source;
 mod store;
 mod sure_source;
-#[cfg(test)]
-mod tests;
 
 pub use mem_sink::MemSink;
 pub use mem_source::MemSource;
 pub use mem_store::MemStore;
+pub use put::put_all;
 pub use sink::{Failed, Sink};
 pub use source::{Next, Source};
 pub use store::{LONGEST_FILE, Store, StoreError};

@@ -1,7 +1,7 @@
 -- The clauses of the whole call, from how it ended.
 use Rattle.std.proofs.Common.{◌≡◌, ℕ, zero, suc, ◌<◌, ◌≤◌, List, [], ◌∷◌, length, get_or, Option, Some, None, refl, sym, ap, ◌∙◌, subst, inl, inr, arith}
 use Rattle.std.specs.Prelude.{◌⊎◌}
-use Rattle.rt_outside.specs.Files.{Files, ChangesOnly, longest}
+use Rattle.rt_outside.specs.Files.{Files, longest}
 use Rattle.pdp_core.specs.Execute.{Outcome, execute}
 use Rattle.pdp_core.specs.declared.cpu.Stop.{Stop}
 use Rattle.pdp_core.specs.declared.cpu.Stop.TheVariants.{Went, Trap, Fault}
@@ -16,18 +16,18 @@ use Rattle.rt_top.specs.declared.image.Image.{Image}
 use Rattle.rt_top.specs.declared.refusal.Refusal.{Refusal}
 use Rattle.rt_top.specs.declared.refusal.Refusal.TheVariants.{LeftOut, LongModule, BadLine, LongText, NoFile}
 use Rattle.rt_top.specs.Console.{Request}
-use Rattle.rt_top.specs.Words.{Go, IsGo, image_name}
+use Rattle.rt_top.specs.Words.{Go, IsGo}
 use Rattle.rt_top.specs.Outcome.{HasSystem, IsNoModule, Accepts, Refuses, system_missing, system_long, system_bad, ticks_missing, ticks_long, ticks_bad, module_missing, module_long, module_bad}
 use Rattle.rt_top.specs.Machine.{State, Reached, At, Over, Faulted, mark_at, pc, service, served, landed, judge, onward, boundary}
 use Rattle.rt_top.specs.Faithful.{Same, Meets, Faithful}
 use Rattle.rt_top.specs.Report.{status_of, RunReport, report_of, run_status}
-use Rattle.rt_top.specs.Ends.{Call, States, IsRun, ChangesTwo, Ends, wrong_words, wrong_words_cut, no_memory, refused, unread, unreported, unread_unreported, image_unwritten, output_failed, run_unreported, ran}
-use Rattle.rt_top.specs.Headline.{NothingDone, ReadFailed, ImageFailed, ReportFailed, MeansBy, Means, ReachesLimit, whole, no_report, cut, Carried, WhereAccepted, IsRefusal, WhereRefused, WhereNoCommand, TenOnly, TwentyOnly, TwentyOneOnly, ThirtyChangesNothing, Headline}
+use Rattle.rt_top.specs.Ends.{Call, States, IsRun, Ends, wrong_words, wrong_words_cut, no_memory, refused, unread, unreported, unread_unreported, image_unwritten, output_failed, run_unreported, ran}
+use Rattle.rt_top.specs.Headline.{NothingDone, ReadFailed, IsRefusal, ImageFailed, MeansBy, Means, ReachesLimit, whole, no_report, cut, Carried, IsAccepted, WhereGo, WhereAccepted, WhereRefused, WhereNoCommand, TenOnly, TwentyOnly, TwentyOneOnly, ThirtyChangesNothing, Headline}
 
 -- ---- what a run means
 
-means_at : (image : Image) (m : FirstModule) (input : List ℕ) (s : State) (r : RunReport) → Same image m input s → r ≡ report_of s → MeansBy m input r
-means_at image m input s r same e = record {
+means_at : (image : Image) (s : FirstSystem) (m : FirstModule) (input : List ℕ) (now : State) (r : RunReport) → Same image s m input now → r ≡ report_of now → MeansBy s m input r
+means_at image s m input now r same e = record {
   state = same.state;
   run = subst (λ x. source_at x) (sym e) same.run;
   output = ap (λ o. o.output) same.outside ∙ sym (ap (λ x. x.output) e);
@@ -36,15 +36,15 @@ means_at image m input s r same e = record {
 }
   where
     source_at : RunReport → Type 0
-    source_at x = Rattle.rt_top.specs.Source.source m input x.steps ≡ Some same.state
+    source_at x = Rattle.rt_top.specs.Source.source s m input x.steps ≡ Some same.state
 
-means_reached : (image : Image) (m : FirstModule) (input : List ℕ) (reached : Reached) (r : RunReport) → Meets image m input reached → States reached r → MeansBy m input r
-means_reached image m input (At s) r meets e = means_at image m input s r meets e
-means_reached image m input (Over s) r meets e = means_at image m input s r meets e
-means_reached image m input (Faulted s) r meets e = absurd e
+means_reached : (image : Image) (s : FirstSystem) (m : FirstModule) (input : List ℕ) (reached : Reached) (r : RunReport) → Meets image s m input reached → States reached r → MeansBy s m input r
+means_reached image s m input (At now) r meets e = means_at image s m input now r meets e
+means_reached image s m input (Over now) r meets e = means_at image s m input now r meets e
+means_reached image s m input (Faulted now) r meets e = absurd e
 
-means : (image : Image) (m : FirstModule) (k : ℕ) (r : RunReport) → Faithful image m → IsRun image k r → Means m r
-means image m k r faithful run input = means_reached image m input (boundary image input k) r (faithful.each input k) (run input)
+means : (image : Image) (s : FirstSystem) (m : FirstModule) (k : ℕ) (r : RunReport) → Faithful image s m → IsRun image k r → Means s m r
+means image s m k r faithful run input = means_reached image s m input (boundary image input k) r (faithful.each input k) (run input)
 
 -- ---- a run that goes on has made as many instructions as its boundary says
 
@@ -190,93 +190,95 @@ where_no_command words c status (output_failed g s m image n r made holds o le r
 where_no_command words c status (run_unreported g s m image r made holds o run none out rose) bad = absurd (bad g made.words_are)
 where_no_command words c status (ran g s m image r made holds o report run none out) bad = absurd (bad g made.words_are)
 
--- a file that is written may have changed
-two_of_one : (g : Go) (files now : Option Files) → ChangesOnly (image_name g) files now → ChangesTwo g files now
-two_of_one g None now h = tt
-two_of_one g (Some f) None h = h
-two_of_one g (Some f) (Some f2) h = λ other a b. h other a
+abbrev Going : Call → ℕ → Go → Type 0
+Going c status g = NothingDone c status ⊎ ReadFailed c g status ⊎ IsRefusal c g status ⊎ IsAccepted c g status
+
+-- the same command
+turned : (words : List (List ℕ)) (c : Call) (status : ℕ) (g h : Go) → IsGo words g → IsGo words h → Going c status h → Going c status g
+turned words c status g h a b r = subst (λ x. Going c status x) (one_go words h g b a) r
+
+pub where_go : (words : List (List ℕ)) (c : Call) (status : ℕ) → Ends words c status → WhereGo words c status
+where_go words c status (wrong_words none same out) g a = absurd (none g a)
+where_go words c status (wrong_words_cut none same out rose) g a = absurd (none g a)
+where_go words c status (no_memory same out) g a = inl (refl, same, out)
+where_go words c status (refused h r file b ref l) g a =
+    turned words c status g h a b (inr (inr (inl (record { refusal = r; file = file; refuses = ref; answer = inl (refl, l) }))))
+where_go words c status (unread h file b t rose l) g a =
+    turned words c status g h a b (inr (inl (record { file = file; turn = t; rose = rose; answer = inl (refl, l) })))
+where_go words c status (unreported h r file b ref rose o k) g a =
+    turned words c status g h a b (inr (inr (inl (record { refusal = r; file = file; refuses = ref; answer = inr (refl, record { rose = rose; output = k; others = o }) }))))
+where_go words c status (unread_unreported h file b t rose rose2 o k) g a =
+    turned words c status g h a b (inr (inl (record { file = file; turn = t; rose = rose; answer = inr (refl, record { rose = rose2; output = k; others = o }) })))
+where_go words c status (image_unwritten h t n b acc rose o k) g a =
+    turned words c status g h a b (inr (inr (inr (record { system = t; parts = n; accepts = acc; done = inl (record { answer = refl; rose = rose; output = k; others = o }) }))))
+where_go words c status (output_failed h t n image k r made holds o le run none out rose) g a =
+    turned words c status g h a made.words_are (inr (inr (inr (record {
+      system = t;
+      parts = n;
+      accepts = made.accepted;
+      done = inr (record {
+        image = image;
+        accepts = made.faithful;
+        holds = holds;
+        runs = cut k r le run none (means image t n k r made.faithful run) out rose o;
+      });
+    }))))
+where_go words c status (run_unreported h t n image r made holds o run none out rose) g a =
+    turned words c status g h a made.words_are (inr (inr (inr (record {
+      system = t;
+      parts = n;
+      accepts = made.accepted;
+      done = inr (record {
+        image = image;
+        accepts = made.faithful;
+        holds = holds;
+        runs = no_report r run none (means image t n h.limit r made.faithful run) (limit image h.limit r run) out rose o;
+      });
+    }))))
+where_go words c status (ran h t n image r made holds o report run none out) g a =
+    turned words c status g h a made.words_are (inr (inr (inr (record {
+      system = t;
+      parts = n;
+      accepts = made.accepted;
+      done = inr (record {
+        image = image;
+        accepts = made.faithful;
+        holds = holds;
+        runs = whole r run none (means image t n h.limit r made.faithful run) (limit image h.limit r run) out report o;
+      });
+    }))))
 
 abbrev Result : Call → ℕ → Go → FirstSystem → FirstModule → Type 0
 Result c status g s m = NothingDone c status ⊎ ReadFailed c g status ⊎ ImageFailed c g status ⊎ Carried c g s m status
 
--- the same command, the same texts
-moved : (words : List (List ℕ)) (c : Call) (status : ℕ) (g h : Go) (s : FirstSystem) (m : FirstModule) → IsGo words g → IsGo words h → Result c status h s m → Result c status g s m
-moved words c status g h s m a b r = subst (λ x. Result c status x s m) (one_go words h g b a) r
+-- what the told files have is what they hold
+told_accepts : (c : Call) (files : Files) (g : Go) (s : FirstSystem) (m : FirstModule) → c.files ≡ Some files → Accepts c.files g s m → Accepts (Some files) g s m
+told_accepts c files g s m told a = subst (λ x. Accepts x g s m) told a
 
-moved_all : (words : List (List ℕ)) (c : Call) (status : ℕ) (files : Files) (g h : Go) (s t : FirstSystem) (m n : FirstModule) → IsGo words g → IsGo words h → c.files ≡ Some files → Accepts (Some files) g s m → Accepts c.files h t n → Result c status h t n → Result c status g s m
-moved_all words c status files g h s t m n a b told acc acc2 r =
-    let e = one_go words h g b a in
-    let f : Accepts (Some files) g t n = subst (λ x. Accepts (Some files) x t n) e (subst (λ x. Accepts x h t n) told acc2) in
-    let same = accepts_one files g t s n m f acc in
-    subst (λ x. Result c status g s x) same.1 (subst (λ x. Result c status g x n) same.0 (moved words c status g h t n a b r))
+pub where_accepted : (words : List (List ℕ)) (c : Call) (status : ℕ) → WhereGo words c status → WhereAccepted words c status
+where_accepted words c status goes g s m files a told acc = by (goes g a)
+  where
+    done : (t : FirstSystem) (n : FirstModule) → ImageFailed c g status ⊎ Carried c g t n status → Result c status g t n
+    done t n (inl failed) = inr (inr (inl failed))
+    done t n (inr carried) = inr (inr (inr carried))
 
--- what is refused isn't accepted
-contradicts : (words : List (List ℕ)) (c : Call) (files : Files) (g h : Go) (s : FirstSystem) (m : FirstModule) (r : Refusal) (file : List ℕ) → IsGo words g → IsGo words h → c.files ≡ Some files → Accepts (Some files) g s m → Refuses c.files h r file → ⊥
-contradicts words c files g h s m r file a b told acc ref =
-    not_both files g s m acc r file (subst (λ x. Refuses (Some files) x r file) (one_go words h g b a) (subst (λ x. Refuses x h r file) told ref))
+    by : Going c status g → Result c status g s m
+    by (inl nothing) = inl nothing
+    by (inr (inl failed)) = inr (inl failed)
+    by (inr (inr (inl refusal))) =
+        absurd (not_both files g s m acc refusal.refusal refusal.file (subst (λ x. Refuses x g refusal.refusal refusal.file) told refusal.refuses))
+    by (inr (inr (inr accepted))) =
+        let same = accepts_one files g accepted.system s accepted.parts m (told_accepts c files g accepted.system accepted.parts told accepted.accepts) acc in
+        subst (λ x. Result c status g s x) same.1 (subst (λ x. Result c status g x accepted.parts) same.0 (done accepted.system accepted.parts accepted.done))
 
-pub where_accepted : (words : List (List ℕ)) (c : Call) (status : ℕ) → Ends words c status → WhereAccepted words c status
-where_accepted words c status (wrong_words none same out) g s m files a told acc = absurd (none g a)
-where_accepted words c status (wrong_words_cut none same out rose) g s m files a told acc = absurd (none g a)
-where_accepted words c status (no_memory same out) g s m files a told acc = inl (refl, same, out)
-where_accepted words c status (refused h r file b ref l) g s m files a told acc = absurd (contradicts words c files g h s m r file a b told acc ref)
-where_accepted words c status (unread h file b t rose l) g s m files a told acc =
-    moved words c status g h s m a b (inr (inl (record { file = file; turn = t; rose = rose; answer = inl refl; output = l.output; others = l.others })))
-where_accepted words c status (unreported h r file b ref rose o k) g s m files a told acc = absurd (contradicts words c files g h s m r file a b told acc ref)
-where_accepted words c status (unread_unreported h file b t rose rose2 o k) g s m files a told acc =
-    moved words c status g h s m a b (inr (inl (record { file = file; turn = t; rose = rose; answer = inr (refl, rose2); output = k; others = o })))
-where_accepted words c status (image_unwritten h t n b acc2 rose o k) g s m files a told acc =
-    moved words c status g h s m a b (inr (inr (inl (record { answer = refl; rose = rose; output = k; others = o }))))
-where_accepted words c status (output_failed h t n image k r made holds o le run none out rose) g s m files a told acc =
-    moved_all words c status files g h s t m n a made.words_are told acc made.accepted (inr (inr (inr (record {
-      image = image;
-      accepts = made.faithful;
-      holds = holds;
-      others = two_of_one h c.files c.files_after o;
-      runs = cut k r le run none (means image n k r made.faithful run) out rose;
-    }))))
-where_accepted words c status (run_unreported h t n image r made holds o run none out rose) g s m files a told acc =
-    moved_all words c status files g h s t m n a made.words_are told acc made.accepted (inr (inr (inr (record {
-      image = image;
-      accepts = made.faithful;
-      holds = holds;
-      others = o;
-      runs = no_report r run none (means image n h.limit r made.faithful run) out rose;
-    }))))
-where_accepted words c status (ran h t n image r made holds o report run none out) g s m files a told acc =
-    moved_all words c status files g h s t m n a made.words_are told acc made.accepted (inr (inr (inr (record {
-      image = image;
-      accepts = made.faithful;
-      holds = holds;
-      others = o;
-      runs = whole r run none (means image n h.limit r made.faithful run) (limit image h.limit r run) out report;
-    }))))
-
-abbrev Refusing : Call → ℕ → Files → Go → Type 0
-Refusing c status files g = NothingDone c status ⊎ ReadFailed c g status ⊎ ReportFailed c g status ⊎ IsRefusal c g files status
-
-turned : (words : List (List ℕ)) (c : Call) (status : ℕ) (files : Files) (g h : Go) → IsGo words g → IsGo words h → Refusing c status files h → Refusing c status files g
-turned words c status files g h a b r = subst (λ x. Refusing c status files x) (one_go words h g b a) r
-
-accepted_here : (words : List (List ℕ)) (c : Call) (files : Files) (g h : Go) (s : FirstSystem) (m : FirstModule) → IsGo words g → IsGo words h → c.files ≡ Some files → Accepts c.files h s m → Accepts (Some files) g s m
-accepted_here words c files g h s m a b told acc = subst (λ x. Accepts (Some files) x s m) (one_go words h g b a) (subst (λ x. Accepts x h s m) told acc)
-
-pub where_refused : (words : List (List ℕ)) (c : Call) (status : ℕ) → Ends words c status → WhereRefused words c status
-where_refused words c status (wrong_words none same out) g files a told never = absurd (none g a)
-where_refused words c status (wrong_words_cut none same out rose) g files a told never = absurd (none g a)
-where_refused words c status (no_memory same out) g files a told never = inl (refl, same, out)
-where_refused words c status (refused h r file b ref l) g files a told never =
-    turned words c status files g h a b (inr (inr (inr (record { refusal = r; file = file; refuses = subst (λ x. Refuses x h r file) told ref; answer = refl; report = l }))))
-where_refused words c status (unread h file b t rose l) g files a told never =
-    turned words c status files g h a b (inr (inl (record { file = file; turn = t; rose = rose; answer = inl refl; output = l.output; others = l.others })))
-where_refused words c status (unreported h r file b ref rose o k) g files a told never =
-    turned words c status files g h a b (inr (inr (inl (record { answer = refl; rose = rose; output = k; others = o }))))
-where_refused words c status (unread_unreported h file b t rose rose2 o k) g files a told never =
-    turned words c status files g h a b (inr (inl (record { file = file; turn = t; rose = rose; answer = inr (refl, rose2); output = k; others = o })))
-where_refused words c status (image_unwritten h t n b acc rose o k) g files a told never = absurd (never t n (accepted_here words c files g h t n a b told acc))
-where_refused words c status (output_failed h t n image k r made holds o le run none out rose) g files a told never = absurd (never t n (accepted_here words c files g h t n a made.words_are told made.accepted))
-where_refused words c status (run_unreported h t n image r made holds o run none out rose) g files a told never = absurd (never t n (accepted_here words c files g h t n a made.words_are told made.accepted))
-where_refused words c status (ran h t n image r made holds o report run none out) g files a told never = absurd (never t n (accepted_here words c files g h t n a made.words_are told made.accepted))
+pub where_refused : (words : List (List ℕ)) (c : Call) (status : ℕ) → WhereGo words c status → WhereRefused words c status
+where_refused words c status goes g files a told never = by (goes g a)
+  where
+    by : Going c status g → NothingDone c status ⊎ ReadFailed c g status ⊎ IsRefusal c g status
+    by (inl nothing) = inl nothing
+    by (inr (inl failed)) = inr (inl failed)
+    by (inr (inr (inl refusal))) = inr (inr refusal)
+    by (inr (inr (inr accepted))) = absurd (never accepted.system accepted.parts (told_accepts c files g accepted.system accepted.parts told accepted.accepts))
 
 -- which answers these are not
 refusal_status : (r : Refusal) (k : ℕ) → status_of r ≡ k → (k ≡ 10) ⊎ (k ≡ 21) ⊎ (k ≡ 30) → ⊥
@@ -368,12 +370,15 @@ thirty_only words c status (run_unreported h t n image r made holds o run none o
 thirty_only words c status (ran h t n image r made holds o report run none out) e = let small = run_small r.condition in absurd (omega (arith, e, small))
 
 pub headline : (words : List (List ℕ)) (c : Call) (status : ℕ) → Ends words c status → Headline words c status
-headline words c status ends = record {
-  no_command = where_no_command words c status ends;
-  accepted = where_accepted words c status ends;
-  refused = where_refused words c status ends;
-  ten = ten_only words c status ends;
-  twenty = twenty_only words c status ends;
-  twenty_one = twenty_one_only words c status ends;
-  thirty = thirty_only words c status ends;
-}
+headline words c status ends =
+    let goes = where_go words c status ends in
+    record {
+      no_command = where_no_command words c status ends;
+      goes = goes;
+      accepted = where_accepted words c status goes;
+      refused = where_refused words c status goes;
+      ten = ten_only words c status ends;
+      twenty = twenty_only words c status ends;
+      twenty_one = twenty_one_only words c status ends;
+      thirty = thirty_only words c status ends;
+    }

@@ -1,9 +1,12 @@
 -- How a call ends, from what its parts did.
 use Rattle.std.proofs.Common.{◌≡◌, ℕ, ◌+◌, ◌*◌, ◌^◌, ◌<◌, ◌≤◌, List, [], ◌∷◌, ◌++◌, length, get_or, drop, Option, Some, None, refl, sym, ap, ◌∙◌, subst, inl, inr, arith, length-append}
 use Rattle.std.specs.Prelude.{◌⊎◌, codes}
+use Rattle.std.specs.List.{AllByRecursion}
 use Rattle.std.specs.Io.KnownBytes.{Keeps}
 use Rattle.rt_words.specs.Causes.{Rose}
 use Rattle.rt_outside.specs.Files.{Files, WhereTold, Has, ChangesOnly}
+use Rattle.rt_first.specs.Names.{IsLetterOrDigit, IsLetterRun}
+use Rattle.rt_first.specs.System.{IsFirstSystem}
 use Rattle.rt_first.specs.Pieces.{Piece}
 use Rattle.rt_first.specs.Module.{statement, statements, pieces_of, IsFirstModule}
 use Rattle.rt_first.specs.declared.module.FirstModule.{FirstModule}
@@ -16,9 +19,9 @@ use Rattle.rt_top.specs.declared.refusal.Refusal.{Refusal}
 use Rattle.rt_top.specs.declared.refusal.Refusal.TheVariants.{NoFile}
 use Rattle.rt_top.specs.Words.{Go, IsGo, image_name, report_name}
 use Rattle.rt_top.specs.Outcome.{Accepts, Refuses, IsInTurn}
-use Rattle.rt_top.specs.Image.{spelling}
 use Rattle.rt_top.specs.Machine.{State, judge}
-use Rattle.rt_top.specs.Code.{Fits, image_of}
+use Rattle.rt_top.specs.Image.{IsByte, spelling}
+use Rattle.rt_top.specs.Code.{Fits, FitsTask, image_of}
 use Rattle.rt_top.specs.Report.{status_of, refusal_text, RunReport, report_of, run_status, report_text}
 use Rattle.rt_top.specs.Running.{state_of_machine, Reaches, machine_report}
 use Rattle.rt_top.specs.Ends.{the_call, Afterwards, ChangesTwo, States, IsRun, Made, Ends, refused, unread, unreported, unread_unreported, output_failed, run_unreported, ran}
@@ -42,6 +45,24 @@ fits_of bytes s m f =
     let each = length-statements m.puts in
     let both = length-append (statements m.puts) (Rattle.rt_first.specs.Pieces.Letters (codes "ENDPROC") ∷ Rattle.rt_first.specs.Module.semicolon ∷ []) in
     record { few = omega (arith, few, each, both); small = f.small; least = f.least; most = f.most }
+
+-- what the form says of a TASK line is what its image needs
+letters_small : (cs : List ℕ) → AllByRecursion IsLetterOrDigit cs → AllByRecursion IsByte cs
+letters_small [] h = tt
+letters_small (c ∷ cs) h = (small h.0, letters_small cs h.1)
+  where
+    small : IsLetterOrDigit c → IsByte c
+    small (inl k) = omega (arith, k.1)
+    small (inr k) = omega (arith, k.1)
+
+name_small : (name : List ℕ) → IsLetterRun name → (1 ≤ length name) × AllByRecursion IsByte name
+name_small [] h = absurd h
+name_small (c ∷ cs) h = (omega arith, (omega (arith, h.0.1), letters_small cs h.1))
+
+pub task_of : (bytes : List ℕ) (s : FirstSystem) → IsFirstSystem bytes s → FitsTask s
+task_of bytes s f =
+    let name = name_small s.task f.task.run in
+    record { least = f.least; most = f.most; named = (name.0, f.task.short); letters = name.1 }
 
 pub code_small : (s : FirstSystem) (m : FirstModule) → Fits m → length (image_of s m).code < 2 ^ 16
 code_small s m f = let few = f.few in let len = length-body_words m.puts in omega (arith, few, len)
@@ -105,31 +126,31 @@ states Ended s r e = e
 
 pub is_run : (image : Image) (k : ℕ) (m : Machine) (old new : Option (List ℕ)) (r : Reaches image k m old new) → IsRun image k (machine_report m r.out)
 is_run image k m old new r input =
-    let s = state_of_machine m r.out r.made in
+    let s = state_of_machine image m r.out r.made in
     let same : machine_report m r.out ≡ report_of s = rw (r.count, r.steps) refl in
     subst (λ x. States x (machine_report m r.out)) (sym (r.reached input)) (states m.condition s (machine_report m r.out) same)
 
 module _ (words : List (List ℕ)) (g : Go) (files : Option Files) (reads reads2 writes writes2 : List ℕ → ℕ) (old new : Option (List ℕ)) (faults faults2 : ℕ) (s : FirstSystem) (m : FirstModule) (go : IsGo words g) (accepts : Accepts files g s m) where
-  made : (files2 : Option Files) → Fits m → 1 ≤ s.priority → Made words (the_call files files2 reads reads2 writes writes2 old new faults faults2) g s m (image_of s m)
-  made files2 fits urgent = record { words_are = go; accepted = accepts; faithful = faithful s m fits urgent }
+  made : (files2 : Option Files) → Fits m → FitsTask s → Made words (the_call files files2 reads reads2 writes writes2 old new faults faults2) g s m (image_of s m)
+  made files2 fits task = record { words_are = go; accepted = accepts; faithful = faithful s m fits task }
 
   -- the output failed in the run
-  pub output_fails : (files1 : Option Files) → Fits m → 1 ≤ s.priority → WhereTold files1 (Has (image_name g) (spelling (image_of s m))) → ChangesOnly (image_name g) files files1 → (k : ℕ) (before : Machine) → k ≤ g.limit → Reaches (image_of s m) k before old new → Rose faults faults2 →
+  pub output_fails : (files1 : Option Files) → Fits m → FitsTask s → WhereTold files1 (Has (image_name g) (spelling (image_of s m))) → ChangesOnly (image_name g) files files1 → (k : ℕ) (before : Machine) → k ≤ g.limit → Reaches (image_of s m) k before old new → Rose faults faults2 →
       Ends words (the_call files files1 reads reads2 writes writes2 old new faults faults2) 21
-  output_fails files1 fits urgent has only k before le r rose =
-      output_failed g s m (image_of s m) k (machine_report before r.out) (made files1 fits urgent) (after_write files files1 (image_name g) (spelling (image_of s m)) has only) only le (is_run (image_of s m) k before old new r) refl r.put rose
+  output_fails files1 fits task has only k before le r rose =
+      output_failed g s m (image_of s m) k (machine_report before r.out) (made files1 fits task) (after_write files files1 (image_name g) (spelling (image_of s m)) has only) only le (is_run (image_of s m) k before old new r) refl r.put rose
 
   -- the report of the run failed
-  pub report_fails : (files1 files2 : Option Files) (writes1 : List ℕ → ℕ) → Fits m → 1 ≤ s.priority → WhereTold files1 (Has (image_name g) (spelling (image_of s m))) → ChangesOnly (image_name g) files files1 → ChangesOnly (report_name g) files1 files2 → (final : Machine) → Reaches (image_of s m) g.limit final old new → writes (report_name g) ≤ writes1 (report_name g) → Rose (writes1 (report_name g)) (writes2 (report_name g)) →
+  pub report_fails : (files1 files2 : Option Files) (writes1 : List ℕ → ℕ) → Fits m → FitsTask s → WhereTold files1 (Has (image_name g) (spelling (image_of s m))) → ChangesOnly (image_name g) files files1 → ChangesOnly (report_name g) files1 files2 → (final : Machine) → Reaches (image_of s m) g.limit final old new → writes (report_name g) ≤ writes1 (report_name g) → Rose (writes1 (report_name g)) (writes2 (report_name g)) →
       Ends words (the_call files files2 reads reads2 writes writes2 old new faults faults2) 21
-  report_fails files1 files2 writes1 fits urgent has only then final r before rose =
+  report_fails files1 files2 writes1 fits task has only then final r before rose =
       let both = two_writes g files files1 files2 (spelling (image_of s m)) has only then in
-      run_unreported g s m (image_of s m) (machine_report final r.out) (made files2 fits urgent) both.1 both.0 (is_run (image_of s m) g.limit final old new r) refl r.put
+      run_unreported g s m (image_of s m) (machine_report final r.out) (made files2 fits task) both.1 both.0 (is_run (image_of s m) g.limit final old new r) refl r.put
       (wider (writes (report_name g)) (writes1 (report_name g)) (writes2 (report_name g)) (writes2 (report_name g)) before rose (omega arith))
 
   -- the whole run
-  pub runs : (files1 files2 : Option Files) → Fits m → 1 ≤ s.priority → WhereTold files1 (Has (image_name g) (spelling (image_of s m))) → ChangesOnly (image_name g) files files1 → ChangesOnly (report_name g) files1 files2 → (final : Machine) → (r : Reaches (image_of s m) g.limit final old new) → WhereTold files2 (Has (report_name g) (report_text s.task (machine_report final r.out))) →
+  pub runs : (files1 files2 : Option Files) → Fits m → FitsTask s → WhereTold files1 (Has (image_name g) (spelling (image_of s m))) → ChangesOnly (image_name g) files files1 → ChangesOnly (report_name g) files1 files2 → (final : Machine) → (r : Reaches (image_of s m) g.limit final old new) → WhereTold files2 (Has (report_name g) (report_text s.task (machine_report final r.out))) →
       Ends words (the_call files files2 reads reads2 writes writes2 old new faults faults2) (run_status final.condition)
-  runs files1 files2 fits urgent has only then final r report =
+  runs files1 files2 fits task has only then final r report =
       let both = two_writes g files files1 files2 (spelling (image_of s m)) has only then in
-      ran g s m (image_of s m) (machine_report final r.out) (made files2 fits urgent) both.1 both.0 (report_left g files files1 files2 (report_text s.task (machine_report final r.out)) only then report) (is_run (image_of s m) g.limit final old new r) refl r.put
+      ran g s m (image_of s m) (machine_report final r.out) (made files2 fits task) both.1 both.0 (report_left g files files1 files2 (report_text s.task (machine_report final r.out)) only then report) (is_run (image_of s m) g.limit final old new r) refl r.put

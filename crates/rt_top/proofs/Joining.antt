@@ -1,5 +1,5 @@
 -- The image that is made of a module is faithful to it: the picture holds at every boundary.
-use Rattle.std.proofs.Common.{◌≡◌, ℕ, zero, suc, ◌+◌, ◌*◌, ◌<◌, ◌≤◌, false, lit≤, add-zero, List, [], ◌∷◌, ◌++◌, length, get_or, refl, sym, ◌∙◌, ap, subst, inl, inr, arith}
+use Rattle.std.proofs.Common.{◌≡◌, ℕ, zero, suc, ◌+◌, ◌*◌, ◌<◌, ◌≤◌, false, lit<, lit≤, add-zero, List, [], ◌∷◌, ◌++◌, length, get_or, refl, sym, ◌∙◌, ap, subst, inl, inr, arith}
 use Rattle.std.specs.Prelude.{◌⊎◌}
 use Rattle.std.specs.List.{AllByRecursion}
 use Rattle.std.proofs.lemmas.List.{get_or-append-add}
@@ -8,10 +8,10 @@ use Rattle.rt_first.specs.declared.system.FirstSystem.{FirstSystem}
 use Rattle.rt_top.specs.declared.condition.Condition.TheVariants.{Ready, Ended}
 use Rattle.rt_top.specs.Console.{start_outside}
 use Rattle.rt_top.specs.Source.{Control, CallsRoot, InRoot, InRrout, HasPut, HasReturned, HasEnded, start_data}
-use Rattle.rt_top.specs.Image.{InRanges, IsMark, block_at, brick_at, brick_end, words_bytes}
+use Rattle.rt_top.specs.Image.{InRanges, IsMark, IsWord, block_at, brick_at, brick_end, words_bytes}
 use Rattle.rt_top.specs.Machine.{State, Reached, At, Over, Faulted, sp, go, onward, start, boundary}
 use Rattle.rt_top.specs.Faithful.{Holds, Same, Meets, Faithful, block_words, quiet}
-use Rattle.rt_top.specs.Code.{Fits, image_of, code_of, body_marks}
+use Rattle.rt_top.specs.Code.{Fits, FitsTask, image_of, code_of, body_words, body_marks}
 use Rattle.rt_top.proofs.CodeWords.{length-words_bytes, length-body_marks}
 use Rattle.rt_top.proofs.Picture as picture
 
@@ -26,6 +26,10 @@ holds mem at (b ∷ bs) h = (
 marks_small : (bs : List ℕ) → AllByRecursion IsMark (body_marks bs)
 marks_small [] = (lit≤ tt, tt)
 marks_small (b ∷ bs) = (lit≤ tt, (lit≤ tt, (lit≤ tt, (lit≤ tt, marks_small bs))))
+
+words_small : (bs : List ℕ) → AllByRecursion (λ n. n ≤ 255) bs → AllByRecursion IsWord (body_words bs)
+words_small [] h = (lit< tt, tt)
+words_small (b ∷ bs) h = (lit< tt, (omega (arith, h.0), (lit< tt, (lit< tt, words_small bs h.1))))
 
 module _ (s : FirstSystem) (m : FirstModule) where
   -- one instruction
@@ -68,7 +72,7 @@ module _ (s : FirstSystem) (m : FirstModule) where
     world_is = refl;
     regs_are = refl;
     intact = λ a below. refl;
-    source_state = record { control = CallsRoot m.puts; store = start_data; outside = start_outside };
+    source_state = record { control = CallsRoot m.puts; store = start_data; outside = start_outside s.priority };
     run = refl;
     outside = refl;
     store = refl;
@@ -123,7 +127,7 @@ module _ (s : FirstSystem) (m : FirstModule) where
       ∙ ap (λ a. get_or (words_bytes (code_of m) ++ ([] ++ words_bytes (block_words start_data))) a 0) e
       ∙ get_or-append-add (words_bytes (code_of m)) (words_bytes (block_words start_data)) x 0)
 
-  same : (input : List ℕ) → Fits m → (state : State) → picture.Joined s m input state → Same (image_of s m) m input state
+  same : (input : List ℕ) → Fits m → (state : State) → picture.Joined s m input state → Same (image_of s m) s m input state
   same input fits state j =
       let there = in_brick input fits j.mem j.r0 j.sp j.at (quiet state.made) j.source_state.control j.stands in
       let at_sp : sp state.regs ≡ j.sp = ap sp j.regs_are in
@@ -140,13 +144,13 @@ module _ (s : FirstSystem) (m : FirstModule) where
         progress = omega (arith, there.1);
       }
 
-  meets : (input : List ℕ) → Fits m → (r : Reached) → picture.JoinedAt s m input r → Meets (image_of s m) m input r
+  meets : (input : List ℕ) → Fits m → (r : Reached) → picture.JoinedAt s m input r → Meets (image_of s m) s m input r
   meets input fits (At state) j = same input fits state j.0
   meets input fits (Over state) j = same input fits state j
   meets input fits (Faulted state) j = j
 
-  ranges : Fits m → 1 ≤ s.priority → InRanges (image_of s m)
-  ranges fits urgent =
+  ranges : Fits m → FitsTask s → InRanges (image_of s m)
+  ranges fits task =
       let len = picture.length-code s m [] in
       let marks = length-body_marks m.puts in
       let few = fits.few in
@@ -155,11 +159,17 @@ module _ (s : FirstSystem) (m : FirstModule) where
       record {
         some_code = omega (arith, len);
         code = omega (arith, len, few);
+        each_word = (lit< tt, (lit< tt, (lit< tt, (lit< tt, (lit< tt, (lit< tt, (lit< tt, (lit< tt, words_small m.puts fits.small))))))));
         marks = omega (arith, len, marks);
         each_mark = (lit≤ tt, (lit≤ tt, (lit≤ tt, (lit≤ tt, (lit≤ tt, (lit≤ tt, (lit≤ tt, (lit≤ tt, marks_small m.puts))))))));
         even_data = refl;
-        priority = urgent;
+        each_byte = tt;
+        name = task.named;
+        each_letter = task.letters;
+        priority = task.least;
+        most_priority = task.most;
         block = refl;
+        each_block_word = (lit< tt, (lit< tt, (lit< tt, (lit< tt, (lit< tt, (lit< tt, (lit< tt, (lit< tt, tt))))))));
         even_entry = refl;
         entry = omega (arith, len);
         some_stack = omega (arith, least);
@@ -167,10 +177,11 @@ module _ (s : FirstSystem) (m : FirstModule) where
         memory = omega (arith, len, few, most);
       }
 
-  -- the image is faithful to the module
-  pub faithful : Fits m → 1 ≤ s.priority → Faithful (image_of s m) m
-  faithful fits urgent = record {
-    ranges = ranges fits urgent;
+  -- the image is faithful to the system and the module
+  pub faithful : Fits m → FitsTask s → Faithful (image_of s m) s m
+  faithful fits task = record {
+    ranges = ranges fits task;
+    task = record { name = refl; priority = refl; stack = refl };
     no_data = refl;
     each = λ input k. meets input fits (boundary (image_of s m) input k) (joined input fits k);
   }

@@ -115,13 +115,13 @@ module _ (s : FirstSystem) (m : FirstModule) (input : List ℕ) where
     pub regs_are : state.regs ≡ regs_of (block_at image) r0 sp at n z v c
     pub intact : Intact mem
     pub source_state : SourceState
-    pub run : source m input (steps state) ≡ Some source_state
+    pub run : source s m input (steps state) ≡ Some source_state
     pub outside : source_state.outside ≡ state.outside
     pub store : source_state.store ≡ start_data
     pub condition : state.outside.condition ≡ condition_of source_state.control
     pub stands : Stands mem r0 sp at (quiet state.made) source_state.control
 
-  pub step_more : (k : ℕ) (t : SourceState) (a : After) → source m input k ≡ Some t → next t.control ≡ Some a → source m input (k + 1) ≡ Some (after t a)
+  pub step_more : (k : ℕ) (t : SourceState) (a : After) → source s m input k ≡ Some t → next t.control ≡ Some a → source s m input (k + 1) ≡ Some (after t a)
   step_more k t a e f =
       let n : k + 1 ≡ suc k = omega arith in rw (n, e, f) refl
 

@@ -15,26 +15,27 @@ use Rattle.rt_top.specs.Image.{memory_bytes, words_bytes, brick_at, protection}
 use Rattle.rt_top.specs.Machine.{State, Reached, Over, Faulted, mark_of, pc, service, served, judge, boundary_at, go, onward, boundary, start, start_world}
 use Rattle.rt_top.specs.Running.{state_of_machine, world_of, Does, asks, condition_after, Reaches}
 use Rattle.rt_top.proofs.CodeWords.{length-words_bytes}
+use Rattle.rt_outside.proofs.Appended.{appends_keeps}
 
 -- a service by its number
-served_does : (old mid : Machine) (mark n : ℕ) (out made : List ℕ) → mid.condition ≡ old.condition → ((n == 2) ≡ true) × (n ≡ 2) ⊎ ((n == 2) ≡ false) × (n ≡ 2 → ⊥) → ((n == 11) ≡ true) × (n ≡ 11) ⊎ ((n == 11) ≡ false) × (n ≡ 11 → ⊥) →
-    Does (asks n mid.regs) (served (state_of_machine old out made) mark (record { stop = Trap n; regs = mid.regs; world = world_of mid.bus }) (service n mid.regs)) old (record mid { condition = condition_after n mid.condition }) out made mark
-served_does old mid mark n out made e (inl p) q = rw (p.1, e) refl
-served_does old mid mark n out made e (inr p) (inl q) = rw q.1 refl
-served_does old mid mark n out made e (inr p) (inr q) = rw (p.0, q.0) refl
+served_does : (image : Image) (old mid : Machine) (mark n : ℕ) (out made : List ℕ) → mid.condition ≡ old.condition → ((n == 2) ≡ true) × (n ≡ 2) ⊎ ((n == 2) ≡ false) × (n ≡ 2 → ⊥) → ((n == 11) ≡ true) × (n ≡ 11) ⊎ ((n == 11) ≡ false) × (n ≡ 11 → ⊥) →
+    Does image (asks n mid.regs) (served (state_of_machine image old out made) mark (record { stop = Trap n; regs = mid.regs; world = world_of mid.bus }) (service n mid.regs)) old (record mid { condition = condition_after n mid.condition }) out made mark
+served_does image old mid mark n out made e (inl p) q = rw (p.1, e) refl
+served_does image old mid mark n out made e (inr p) (inl q) = rw q.1 refl
+served_does image old mid mark n out made e (inr p) (inr q) = rw (p.0, q.0) refl
 
 -- an instruction that traps
 pub trap_does : (image : Image) (marks : List ℕ) (old mid new : Machine) (n : ℕ) (result : Asked) (out made : List ℕ) → image.marks ≡ marks →
     execute (world_of old.bus) old.regs ≡ record { stop = Trap n; regs = mid.regs; world = world_of mid.bus } → mid.condition ≡ old.condition → result ≡ asks n mid.regs → new ≡ record mid { condition = condition_after n mid.condition } →
-    Does result (go image (state_of_machine old out made)) old new out made (mark_of marks (pc old.regs))
+    Does image result (go image (state_of_machine image old out made)) old new out made (mark_of marks (pc old.regs))
 trap_does image marks old mid new n result out made em ex ec er en =
-    let s = state_of_machine old out made in
+    let s = state_of_machine image old out made in
     let o : Outcome = record { stop = Trap n; regs = mid.regs; world = world_of mid.bus } in
     let f : go image s ≡ served s (mark_of marks (pc old.regs)) o (service n mid.regs) = rw (ex, em) refl in
-    let P : Reached → Type 0 = λ r. Does result r old new out made (mark_of marks (pc old.regs)) in
-    let Q : Asked → Type 0 = λ a. Does a (served s (mark_of marks (pc old.regs)) o (service n mid.regs)) old new out made (mark_of marks (pc old.regs)) in
-    let R : Machine → Type 0 = λ m. Does (asks n mid.regs) (served s (mark_of marks (pc old.regs)) o (service n mid.regs)) old m out made (mark_of marks (pc old.regs)) in
-    subst P (sym f) (subst Q (sym er) (subst R (sym en) (served_does old mid (mark_of marks (pc old.regs)) n out made ec (eqb_tells n 2) (eqb_tells n 11))))
+    let P : Reached → Type 0 = λ r. Does image result r old new out made (mark_of marks (pc old.regs)) in
+    let Q : Asked → Type 0 = λ a. Does image a (served s (mark_of marks (pc old.regs)) o (service n mid.regs)) old new out made (mark_of marks (pc old.regs)) in
+    let R : Machine → Type 0 = λ m. Does image (asks n mid.regs) (served s (mark_of marks (pc old.regs)) o (service n mid.regs)) old m out made (mark_of marks (pc old.regs)) in
+    subst P (sym f) (subst Q (sym er) (subst R (sym en) (served_does image old mid (mark_of marks (pc old.regs)) n out made ec (eqb_tells n 2) (eqb_tells n 11))))
 
 -- zeros behind a list change no byte of it
 pub zero_behind : (bs : List ℕ) (a : ℕ) → get_or (bs ++ 0 ∷ []) a 0 ≡ get_or bs a 0
@@ -73,18 +74,12 @@ appends_both (Some x) None c xs ys p q = absurd p
 appends_both (Some x) (Some y) None xs ys p q = absurd q
 appends_both (Some x) (Some y) (Some z) xs ys p q = q ∙ ap (λ l. l ++ ys) p ∙ append_assoc x xs ys
 
-pub appends_keeps : (a b c : Option (List ℕ)) (xs : List ℕ) → Appends a b xs → Keeps b c → Appends a c xs
-appends_keeps None b c xs p q = tt
-appends_keeps (Some x) None c xs p q = absurd p
-appends_keeps (Some x) (Some y) None xs p q = absurd q
-appends_keeps (Some x) (Some y) (Some z) xs p q = q ∙ p
-
 pub appends_nothing : (a : Option (List ℕ)) → Appends a a []
 appends_nothing None = tt
 appends_nothing (Some x) = sym (append-nil x)
 
 -- the run so far, and one more instruction
-pub reaches_start : (image : Image) (m : Machine) (old : Option (List ℕ)) → m.instructions ≡ 0 → m.steps ≡ 0 → state_of_machine m [] [] ≡ start image → Reaches image 0 m old old
+pub reaches_start : (image : Image) (m : Machine) (old : Option (List ℕ)) → m.instructions ≡ 0 → m.steps ≡ 0 → state_of_machine image m [] [] ≡ start image → Reaches image 0 m old old
 reaches_start image m old e f g = record {
   made = [];
   out = [];
@@ -95,12 +90,12 @@ reaches_start image m old e f g = record {
 }
 
 -- the boundary after the next instruction, where the machine's task is ready
-next_boundary : (image : Image) (input : List ℕ) (k : ℕ) (m : Machine) (out made : List ℕ) → m.condition ≡ Ready → boundary image input k ≡ boundary_at (state_of_machine m out made) → boundary image input (k + 1) ≡ go image (state_of_machine m out made)
+next_boundary : (image : Image) (input : List ℕ) (k : ℕ) (m : Machine) (out made : List ℕ) → m.condition ≡ Ready → boundary image input k ≡ boundary_at (state_of_machine image m out made) → boundary image input (k + 1) ≡ go image (state_of_machine image m out made)
 next_boundary image input k m out made ready e =
     let n : k + 1 ≡ suc k = omega arith in
-    ap (boundary image input) n ∙ ap (onward image) (e ∙ ap (λ c. judge c (state_of_machine m out made)) ready)
+    ap (boundary image input) n ∙ ap (onward image) (e ∙ ap (λ c. judge c (state_of_machine image m out made)) ready)
 
-pub reaches_went : (image : Image) (k : ℕ) (m new : Machine) (old now : Option (List ℕ)) (mark : ℕ) → m.condition ≡ Ready → (r : Reaches image k m old now) → ((out made : List ℕ) → go image (state_of_machine m out made) ≡ boundary_at (state_of_machine new out (mark ∷ made))) → new.instructions ≡ m.instructions + 1 → new.steps ≡ m.steps + mark → Reaches image (k + 1) new old now
+pub reaches_went : (image : Image) (k : ℕ) (m new : Machine) (old now : Option (List ℕ)) (mark : ℕ) → m.condition ≡ Ready → (r : Reaches image k m old now) → ((out made : List ℕ) → go image (state_of_machine image m out made) ≡ boundary_at (state_of_machine image new out (mark ∷ made))) → new.instructions ≡ m.instructions + 1 → new.steps ≡ m.steps + mark → Reaches image (k + 1) new old now
 reaches_went image k m new old now mark ready r does ei es =
     let c = r.count in
     let st = r.steps in
@@ -113,7 +108,7 @@ reaches_went image k m new old now mark ready r does ei es =
       reached = λ input. next_boundary image input k m r.out r.made ready (r.reached input) ∙ does r.out r.made;
     }
 
-pub reaches_puts : (image : Image) (k : ℕ) (m new : Machine) (old now then : Option (List ℕ)) (mark b : ℕ) → m.condition ≡ Ready → (r : Reaches image k m old now) → ((out made : List ℕ) → go image (state_of_machine m out made) ≡ boundary_at (state_of_machine new (out ++ b ∷ []) (mark ∷ made))) → new.instructions ≡ m.instructions + 1 → new.steps ≡ m.steps + mark → Appends now then (b ∷ []) → Reaches image (k + 1) new old then
+pub reaches_puts : (image : Image) (k : ℕ) (m new : Machine) (old now then : Option (List ℕ)) (mark b : ℕ) → m.condition ≡ Ready → (r : Reaches image k m old now) → ((out made : List ℕ) → go image (state_of_machine image m out made) ≡ boundary_at (state_of_machine image new (out ++ b ∷ []) (mark ∷ made))) → new.instructions ≡ m.instructions + 1 → new.steps ≡ m.steps + mark → Appends now then (b ∷ []) → Reaches image (k + 1) new old then
 reaches_puts image k m new old now then mark b ready r does ei es put =
     let c = r.count in
     let st = r.steps in
@@ -135,7 +130,7 @@ reaches_limit image k limit m old now ended h r = record {
   steps = r.steps;
   put = r.put;
   reached = λ input.
-      let s = state_of_machine m r.out r.made in
+      let s = state_of_machine image m r.out r.made in
       let n : limit ≡ limit - k + k = omega (arith, h) in
       let over : boundary_at s ≡ Over s = ap (λ c. judge c s) ended in
       ap (boundary image input) n ∙ over_stays image input s k (limit - k) (r.reached input ∙ over) ∙ sym over;
@@ -146,10 +141,10 @@ pub reaches_failed : (image : Image) (k : ℕ) (m : Machine) (old now then : Opt
 reaches_failed image k m old now then r keeps = record { made = r.made; out = r.out; count = r.count; steps = r.steps; put = appends_keeps old now then r.out r.put keeps; reached = r.reached }
 
 -- a fault
-pub reaches_fault : (image : Image) (k limit : ℕ) (m : Machine) (old now : Option (List ℕ)) → m.condition ≡ Ready → k + 1 ≤ limit → (r : Reaches image k m old now) → ((out made : List ℕ) → go image (state_of_machine m out made) ≡ Faulted (state_of_machine m out made)) → (s : State) × ((input : List ℕ) → boundary image input limit ≡ Faulted s)
+pub reaches_fault : (image : Image) (k limit : ℕ) (m : Machine) (old now : Option (List ℕ)) → m.condition ≡ Ready → k + 1 ≤ limit → (r : Reaches image k m old now) → ((out made : List ℕ) → go image (state_of_machine image m out made) ≡ Faulted (state_of_machine image m out made)) → (s : State) × ((input : List ℕ) → boundary image input limit ≡ Faulted s)
 reaches_fault image k limit m old now ready h r does = (
-  state_of_machine m r.out r.made,
+  state_of_machine image m r.out r.made,
   λ input.
       let n : limit ≡ limit - (k + 1) + (k + 1) = omega (arith, h) in
-      ap (boundary image input) n ∙ fault_stays image input (state_of_machine m r.out r.made) (k + 1) (limit - (k + 1)) (next_boundary image input k m r.out r.made ready (r.reached input) ∙ does r.out r.made),
+      ap (boundary image input) n ∙ fault_stays image input (state_of_machine image m r.out r.made) (k + 1) (limit - (k + 1)) (next_boundary image input k m r.out r.made ready (r.reached input) ∙ does r.out r.made),
 )

@@ -5,7 +5,9 @@ use Rattle.rt_first.specs.declared.module.FirstModule.{FirstModule}
 use Rattle.rt_first.specs.declared.system.FirstSystem.{FirstSystem}
 use Rattle.rt_top.specs.declared.image.Image.{Image}
 use Rattle.rt_top.specs.Source.{start_data}
+use Rattle.rt_top.specs.Image.{IsByte}
 use Rattle.rt_top.specs.Faithful.{block_words}
+use Rattle.rt_words.specs.Named.{IsNameLength}
 
 -- the support code: RRIN at 0 (TRAP 1, RTS PC), RROUT at 4 (TRAP 2, RTS PC), RRGEL at 8 (TRAP 10)
 abbrev pub support : List ℕ
@@ -65,3 +67,10 @@ pub record Fits (m : FirstModule) : Type 0 where
   pub small : AllByRecursion (λ n. n ≤ 255) m.puts
   pub least : 4 ≤ m.words
   pub most : m.words ≤ 1000
+
+-- what the form says of a TASK line, as far as its image needs it
+pub record FitsTask (s : FirstSystem) : Type 0 where
+  pub least : 1 ≤ s.priority
+  pub most : s.priority ≤ 255
+  pub named : IsNameLength (length s.task)
+  pub letters : AllByRecursion IsByte s.task

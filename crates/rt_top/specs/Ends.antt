@@ -1,7 +1,8 @@
 -- How a call of `top` ends: each answer with its cause, and what stands then.
-use Rattle.std.specs.Prelude.{ℕ, ◌≡◌, ◌≢◌, ◌≤◌, List, [], ◌++◌, Option, Some, None}
+use Rattle.std.specs.Prelude.{ℕ, ◌≡◌, ◌≢◌, ◌≤◌, List, Option, Some, None}
 use Rattle.std.specs.Io.KnownBytes.{Keeps, Appends}
 use Rattle.rt_words.specs.Causes.{Rose}
+use Rattle.rt_outside.specs.Appending.{AppendsStart}
 use Rattle.rt_outside.specs.Files.{Files, IsTold, Has, ChangesOnly}
 use Rattle.rt_first.specs.declared.module.FirstModule.{FirstModule}
 use Rattle.rt_first.specs.declared.system.FirstSystem.{FirstSystem}
@@ -42,14 +43,6 @@ the_call files files2 reads reads2 writes writes2 written written2 faults faults
   faults_after = faults2;
 }
 
--- a proper start of the text was appended
-pub record AppendsStart (old new : Option (List ℕ)) (text : List ℕ) : Type 0 where
-  pub start : List ℕ
-  pub rest : List ℕ
-  pub parts : text ≡ start ++ rest
-  pub proper : rest ≢ []
-  pub appended : Appends old new start
-
 -- where the files were told before, this holds of them afterwards
 abbrev pub Afterwards : Option Files → Option Files → (Files → Type 0) → Type 0
 Afterwards None now P = Unit {0}
@@ -80,11 +73,11 @@ IsRun image limit r = (input : List ℕ) → States (boundary image input limit)
 abbrev pub TakesNothing : RunReport → Type 0
 TakesNothing r = r.taken ≡ 0
 
--- the words are those of `go`, the texts are accepted, and the image is faithful to the module
+-- the words are those of `go`, the texts are accepted, and the image is faithful to them
 pub record Made (words : List (List ℕ)) (c : Call) (g : Go) (s : FirstSystem) (m : FirstModule) (image : Image) : Type 0 where
   pub words_are : IsGo words g
   pub accepted : Accepts c.files g s m
-  pub faithful : Faithful image m
+  pub faithful : Faithful image s m
 
 -- the image holds its spelling
 abbrev pub HasImage : Call → Go → Image → Type 0

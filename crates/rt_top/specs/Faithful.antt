@@ -1,7 +1,9 @@
 -- What an image does is what the module means, for every input and every number of instructions.
 use Rattle.std.specs.Prelude.{ℕ, ◌≡◌, ◌≤◌, ◌+◌, ◌*◌, ◌==◌, if◌then◌else◌, List, [], ◌∷◌, length, Some}
 use Rattle.rt_first.specs.declared.module.FirstModule.{FirstModule}
+use Rattle.rt_first.specs.declared.system.FirstSystem.{FirstSystem}
 use Rattle.rt_top.specs.declared.image.Image.{Image}
+use Rattle.rt_top.specs.declared.image.ImageTask.{ImageTask}
 use Rattle.rt_top.specs.Source.{SourceState, SvcData, Supplied, Rrgel, Rrin, Rrout, source}
 use Rattle.rt_top.specs.Image.{InRanges, block_at, brick_at, brick_end, words_bytes}
 use Rattle.rt_top.specs.Machine.{State, Reached, At, Over, Faulted, steps, sp, boundary}
@@ -32,22 +34,29 @@ procedure_items m = 5 * length m.puts + 5
 
 -- the source run for the steps so far is there, and has the same condition, output and bytes taken; the task's block is
 -- the layout of its data; the stack pointer lies in the brick; visible steps come again and again
-pub record Same (image : Image) (m : FirstModule) (input : List ℕ) (s : State) : Type 0 where
+pub record Same (image : Image) (s : FirstSystem) (m : FirstModule) (input : List ℕ) (now : State) : Type 0 where
   pub state : SourceState
-  pub run : source m input (steps s) ≡ Some state
-  pub outside : state.outside ≡ s.outside
-  pub block : Holds s.world.bytes (block_at image) (words_bytes (block_words state.store))
-  pub above : brick_at image ≤ sp s.regs
-  pub below : sp s.regs ≤ brick_end image
-  pub progress : quiet s.made ≤ 24 * procedure_items m
+  pub run : source s m input (steps now) ≡ Some state
+  pub outside : state.outside ≡ now.outside
+  pub block : Holds now.world.bytes (block_at image) (words_bytes (block_words state.store))
+  pub above : brick_at image ≤ sp now.regs
+  pub below : sp now.regs ≤ brick_end image
+  pub progress : quiet now.made ≤ 24 * procedure_items m
 
-abbrev pub Meets : Image → FirstModule → List ℕ → Reached → Type 0
-Meets image m input (At s) = Same image m input s
-Meets image m input (Over s) = Same image m input s
-Meets image m input (Faulted s) = ⊥
+abbrev pub Meets : Image → FirstSystem → FirstModule → List ℕ → Reached → Type 0
+Meets image s m input (At now) = Same image s m input now
+Meets image s m input (Over now) = Same image s m input now
+Meets image s m input (Faulted now) = ⊥
 
--- at each boundary of each run, whatever the input and the limit
-pub record Faithful (image : Image) (m : FirstModule) : Type 0 where
+-- the image's task is that of the TASK line: its name, its priority, and the words of the stack that it names
+pub record IsTaskOf (t : ImageTask) (s : FirstSystem) (m : FirstModule) : Type 0 where
+  pub name : t.name ≡ s.task
+  pub priority : t.priority ≡ s.priority
+  pub stack : t.stack ≡ m.words
+
+-- the image's task is the system's, and at each boundary of each run, whatever the input and the limit, the run is the module's
+pub record Faithful (image : Image) (s : FirstSystem) (m : FirstModule) : Type 0 where
   pub ranges : InRanges image
+  pub task : IsTaskOf image.task s m
   pub no_data : image.bytes ≡ []
-  pub each : (input : List ℕ) (k : ℕ) → Meets image m input (boundary image input k)
+  pub each : (input : List ℕ) (k : ℕ) → Meets image s m input (boundary image input k)

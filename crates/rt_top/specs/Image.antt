@@ -1,13 +1,11 @@
 -- Images: their one spelling as bytes, their ranges, and where their parts lie in the memory.
-use Rattle.std.specs.Prelude.{ℕ, ◌+◌, ◌*◌, ◌/◌, ◌%◌, ◌<◌, ◌≤◌, ◌≡◌, List, [], ◌∷◌, ◌++◌, length, codes}
+use Rattle.std.specs.Prelude.{ℕ, ◌+◌, ◌*◌, ◌%◌, ◌^◌, ◌<◌, ◌≤◌, ◌≡◌, List, [], ◌∷◌, ◌++◌, length, codes}
 use Rattle.std.specs.List.{AllByRecursion}
+use Rattle.rt_words.specs.Bytes.{word_bytes}
+use Rattle.rt_words.specs.Named.{IsNameLength}
 use Rattle.pdp_core.specs.declared.memory.Protection.{Protection}
 use Rattle.rt_top.specs.declared.image.Image.{Image}
 use Rattle.rt_top.specs.declared.image.ImageTask.{ImageTask}
-
--- a word as two bytes, the low one first
-abbrev pub word_bytes : ℕ → List ℕ
-word_bytes w = w % 256 ∷ w / 256 ∷ []
 
 abbrev pub words_bytes : List ℕ → List ℕ
 words_bytes [] = []
@@ -41,15 +39,27 @@ brick_end i = brick_at i + 2 * i.task.stack
 abbrev pub IsMark : ℕ → Type 0
 IsMark mark = mark ≤ 2
 
+abbrev pub IsByte : ℕ → Type 0
+IsByte b = b < 2 ^ 8
+
+abbrev pub IsWord : ℕ → Type 0
+IsWord w = w < 2 ^ 16
+
 -- the ranges of an image
 pub record InRanges (i : Image) : Type 0 where
   pub some_code : 1 ≤ length i.code
   pub code : length i.code ≤ 28672
+  pub each_word : AllByRecursion IsWord i.code
   pub marks : length i.marks ≡ length i.code
   pub each_mark : AllByRecursion IsMark i.marks
   pub even_data : length i.bytes % 2 ≡ 0
+  pub each_byte : AllByRecursion IsByte i.bytes
+  pub name : IsNameLength (length i.task.name)
+  pub each_letter : AllByRecursion IsByte i.task.name
   pub priority : 1 ≤ i.task.priority
+  pub most_priority : i.task.priority ≤ 255
   pub block : length i.task.block ≡ 8
+  pub each_block_word : AllByRecursion IsWord i.task.block
   pub even_entry : i.task.entry % 2 ≡ 0
   pub entry : i.task.entry < code_end i
   pub some_stack : 1 ≤ i.task.stack

@@ -41,7 +41,7 @@ abbrev pub start_world : Image → World
 start_world i = protected (protection i) (λ a. slice_index (memory_bytes i) a)
 
 abbrev pub start : Image → State
-start i = record { regs = start_regs i; world = start_world i; outside = start_outside; made = [] }
+start i = record { regs = start_regs i; world = start_world i; outside = start_outside i.task.priority; made = [] }
 
 -- the mark of the code word at an address, by the marks of the code words
 abbrev pub mark_of : List ℕ → ℕ → ℕ

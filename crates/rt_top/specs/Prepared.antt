@@ -9,7 +9,7 @@ use Rattle.rt_top.specs.Running.{state_of_machine}
 
 pub record IsPrepared (g : Go) (image : Image) (p : Prepared) : Type 0 where
   pub image_is : p.image ≡ image
-  pub start_is : state_of_machine p.machine [] [] ≡ start image
+  pub start_is : state_of_machine image p.machine [] [] ≡ start image
   pub instructions : p.machine.instructions ≡ 0
   pub steps : p.machine.steps ≡ 0
   pub spelled : p.spelling.items ≡ spelling image

@@ -19,20 +19,20 @@ use Rattle.rt_top.specs.Report.{RunReport}
 abbrev pub world_of : FlatBus → World
 world_of b = protected b.protection (λ a. slice_index b.bytes.items a)
 
--- with what was put so far, and the marks of the instructions so far
-abbrev pub state_of_machine : Machine → List ℕ → List ℕ → State
-state_of_machine m out made = record {
+-- of this image, with what was put so far, and the marks of the instructions so far
+abbrev pub state_of_machine : Image → Machine → List ℕ → List ℕ → State
+state_of_machine image m out made = record {
   regs = m.regs;
   world = world_of m.bus;
-  outside = record { condition = m.condition; output = out; taken = 0 };
+  outside = record { condition = m.condition; priority = image.task.priority; output = out; taken = 0 };
   made = made;
 }
 
 -- an instruction with this mark leads from the old machine to this
-abbrev pub Does : Asked → Reached → Machine → Machine → List ℕ → List ℕ → ℕ → Type 0
-Does asked.Went r old new out made mark = r ≡ boundary_at (state_of_machine new out (mark ∷ made))
-Does (asked.Puts b) r old new out made mark = r ≡ boundary_at (state_of_machine new (out ++ b ∷ []) (mark ∷ made))
-Does asked.Faulted r old new out made mark = r ≡ Faulted (state_of_machine old out made)
+abbrev pub Does : Image → Asked → Reached → Machine → Machine → List ℕ → List ℕ → ℕ → Type 0
+Does image asked.Went r old new out made mark = r ≡ boundary_at (state_of_machine image new out (mark ∷ made))
+Does image (asked.Puts b) r old new out made mark = r ≡ boundary_at (state_of_machine image new (out ++ b ∷ []) (mark ∷ made))
+Does image asked.Faulted r old new out made mark = r ≡ Faulted (state_of_machine image old out made)
 
 -- the machine stands at boundary k of the image's run, and has put this run's output
 pub record Reaches (image : Image) (k : ℕ) (m : Machine) (old new : Option (List ℕ)) : Type 0 where
@@ -41,7 +41,7 @@ pub record Reaches (image : Image) (k : ℕ) (m : Machine) (old new : Option (Li
   pub count : length made ≡ m.instructions
   pub steps : steps_of made ≡ m.steps
   pub put : Appends old new out
-  pub reached : (input : List ℕ) → boundary image input k ≡ boundary_at (state_of_machine m out made)
+  pub reached : (input : List ℕ) → boundary image input k ≡ boundary_at (state_of_machine image m out made)
 
 -- a run of the image up to the limit
 abbrev pub Ran : Ending → Image → ℕ → Machine → Option (List ℕ) → Option (List ℕ) → Type 0

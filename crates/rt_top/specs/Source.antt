@@ -1,7 +1,8 @@
--- The source meaning of a first module: what its task does, by visible steps. It knows procedures and what is still to be
+-- The source meaning of a first module and its task: what its task does, by visible steps. It knows procedures and what is still to be
 -- done in them, and no registers, addresses or code.
 use Rattle.std.specs.Prelude.{ℕ, zero, suc, List, [], ◌∷◌, Option, Some, None}
 use Rattle.rt_first.specs.declared.module.FirstModule.{FirstModule}
+use Rattle.rt_first.specs.declared.system.FirstSystem.{FirstSystem}
 use Rattle.rt_top.specs.Console.{Outside, Request, Nothing, Puts, Ends, start_outside, serve}
 
 -- a supplied procedure
@@ -58,8 +59,8 @@ pub record SourceState : Type 0 where
   pub store : SvcData  -- no step of this form changes it
   pub outside : Outside
 
-abbrev pub start : FirstModule → SourceState
-start m = record { control = CallsRoot m.puts; store = start_data; outside = start_outside }
+abbrev pub start : FirstSystem → FirstModule → SourceState
+start s m = record { control = CallsRoot m.puts; store = start_data; outside = start_outside s.priority }
 
 abbrev pub after : SourceState → After → SourceState
 after s a = record { control = a.control; store = s.store; outside = serve a.request s.outside }
@@ -75,6 +76,6 @@ then_step (Some s) = then_next s (next s.control)
 
 -- the state after n visible steps; it is there where the task was ready before each of them. The input is the console's,
 -- and no step of this form takes of it
-abbrev pub source : FirstModule → List ℕ → ℕ → Option SourceState
-source m input zero = Some (start m)
-source m input (suc n) = then_step (source m input n)
+abbrev pub source : FirstSystem → FirstModule → List ℕ → ℕ → Option SourceState
+source s m input zero = Some (start s m)
+source s m input (suc n) = then_step (source s m input n)

@@ -3,7 +3,7 @@ ghost use Rattle.rt_outside.specs.Files.{Files};
 ghost use Rattle.rt_top.specs.GoWords.{go_of};
 ghost use Rattle.rt_top.specs.Words.{IsGo};
 ghost use Rattle.rt_top.specs.Outcome.{Accepts};
-ghost use Rattle.rt_top.specs.Code.{Fits, image_of};
+ghost use Rattle.rt_top.specs.Code.{Fits, FitsTask, image_of};
 ghost use Rattle.rt_top.specs.Prepared.{IsPrepared};
 ghost use Rattle.rt_top.specs.Ends.{the_call, Ends};
 
@@ -25,7 +25,7 @@ pub fn carry_out<S: Store, O: Sink>(
 ) -> u8
     requires limit { go.now.limit ≤ 4000000000 }
     requires fits { Fits accepted.now.module }
-    requires urgent { 1 ≤ accepted.now.system.priority }
+    requires task { FitsTask accepted.now.system }
     requires prepared { IsPrepared (go_of go.now) (image_of accepted.now.system accepted.now.module) prepared.old }
     // So the whole call ends, whatever the files and counts were before it, as long as the files are still the same and no
     // count has fallen since.

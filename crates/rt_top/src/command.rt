@@ -8,11 +8,10 @@ ghost use Rattle.rt_top.specs.Headline.{Headline};
 use crate::accept::{Unaccepted, accept};
 use crate::carry_out::carry_out;
 use crate::prepare::prepare;
-use crate::put::put_all;
 use crate::refusal::Refusal;
 use crate::refuse::refuse;
 use crate::words::{GoWords, read_go};
-use rt_outside::{Sink, Source, Store};
+use rt_outside::{Sink, Source, Store, put_all};
 use std::alloc::Global;
 
 /// The whole of the program: does what the words say, and answers the status.
@@ -28,14 +27,8 @@ pub fn top<S: Store, I: Source, O: Sink>(
     input: &mut I,
     output: &mut O,
 ) -> u8
-    // The headline: accepts, runs, means and status where the texts are first; the refusals and the causes elsewhere.
+    // The headline: accepts, runs, means and status where the texts are first; the refusals elsewhere; each answer's cause.
     ensures headline { Headline (map string_bytes words.now) (the_call (S.files store.old) (S.files store.new)
-        (S.read_faults store.old) (S.read_faults store.new)
-        (S.write_faults store.old) (S.write_faults store.new)
-        (O.written output.old) (O.written output.new)
-        (O.faults output.old) (O.faults output.new)) result }
-    // Each answer with its cause and what stands then.
-    ensures ends { Ends (map string_bytes words.now) (the_call (S.files store.old) (S.files store.new)
         (S.read_faults store.old) (S.read_faults store.new)
         (S.write_faults store.old) (S.write_faults store.new)
         (O.written output.old) (O.written output.new)

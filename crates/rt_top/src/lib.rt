@@ -9,14 +9,11 @@ mod condition;
 mod image;
 mod machine;
 mod prepare;
-mod put;
 mod refusal;
 mod refuse;
 mod report;
 mod run;
 mod spell;
-#[cfg(test)]
-mod tests;
 mod words;
 
 pub use command::top;

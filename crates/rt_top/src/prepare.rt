@@ -1,6 +1,6 @@
 ghost use Rattle.std.specs.Prelude.{◌≡◌, ◌≤◌, ◌++◌, IfOk, codes, string_bytes};
 ghost use Rattle.rt_top.specs.GoWords.{go_of};
-ghost use Rattle.rt_top.specs.Code.{Fits, image_of};
+ghost use Rattle.rt_top.specs.Code.{Fits, FitsTask, image_of};
 ghost use Rattle.rt_top.specs.Prepared.{IsPrepared};
 
 use crate::accept::Accepted;
@@ -30,7 +30,7 @@ pub struct Prepared {
 /// Makes the image of a system and all the room that its run takes.
 pub fn prepare(alloc: Global, go: &GoWords, accepted: &Accepted) -> Result<Prepared, Memory>
     requires fits { Fits accepted.now.module }
-    requires urgent { 1 ≤ accepted.now.system.priority }
+    requires task { FitsTask accepted.now.system }
     ensures { IfOk result (λ p. IsPrepared (go_of go.now) (image_of accepted.now.system accepted.now.module) p) }
 {
     let image = compile(alloc, &accepted.system, &accepted.module)?;

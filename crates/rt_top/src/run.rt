@@ -23,7 +23,7 @@ const MEMORY_BYTES: usize = 57_344;
 /// The machine at the start of an image.
 pub fn load(alloc: Global, image: &Image) -> Result<Machine, Memory>
     requires { InRanges image.now }
-    ensures start { IfOk result (λ m. state_of_machine m [] [] ≡ start image.now) }
+    ensures start { IfOk result (λ m. state_of_machine image.now m [] [] ≡ start image.now) }
     ensures instructions { IfOk result (λ m. m.instructions ≡ 0) }
     ensures steps { IfOk result (λ m. m.steps ≡ 0) }
 {
@@ -124,7 +124,7 @@ fn serve(machine: &mut Machine, number: u8) -> Asked
 fn instruction(machine: &mut Machine, marks: &[u8]) -> Asked
     requires few { machine.old.instructions < 2 ^ 60 }
     requires low { machine.old.steps < 2 ^ 60 }
-    ensures does { (image : Image) (out made : List ℕ) → image.marks ≡ marks.now → Does result (go image (state_of_machine machine.old out made)) machine.old machine.new out made (mark_of marks.now (pc machine.old.regs)) }
+    ensures does { (image : Image) (out made : List ℕ) → image.marks ≡ marks.now → Does image result (go image (state_of_machine image machine.old out made)) machine.old machine.new out made (mark_of marks.now (pc machine.old.regs)) }
     ensures instructions { machine.new.instructions ≡ machine.old.instructions + 1 }
     ensures steps { machine.new.steps ≡ machine.old.steps + mark_of marks.now (pc machine.old.regs) }
     ensures steps_few { machine.new.steps ≤ machine.old.steps + 255 }
@@ -144,7 +144,7 @@ pub fn run<O: Sink>(machine: &mut Machine, marks: &[u8], output: &mut O, limit: 
     requires limit { limit ≤ 4000000000 }
     requires instructions { machine.old.instructions ≡ 0 }
     requires steps { machine.old.steps ≡ 0 }
-    ensures ran { (image : Image) → image.marks ≡ marks.now → state_of_machine machine.old [] [] ≡ start image → Ran result image limit machine.new (O.written output.old) (O.written output.new) }
+    ensures ran { (image : Image) → image.marks ≡ marks.now → state_of_machine image machine.old [] [] ≡ start image → Ran result image limit machine.new (O.written output.old) (O.written output.new) }
     ensures later { O.faults output.old ≤ O.faults output.new }
     ensures failed { result ≡ Ending.OutputFailed → Rose (O.faults output.old) (O.faults output.new) }
 {

@@ -1,5 +1,6 @@
 ghost use Rattle.std.specs.Prelude.{◌≡◌, ◌++◌, ◌<◌, ◌^◌, IfOk, OnOk, length};
-ghost use Rattle.rt_top.specs.Image.{spelling, word_bytes, words_bytes, task_bytes, memory_bytes};
+ghost use Rattle.rt_top.specs.Image.{spelling, words_bytes, task_bytes, memory_bytes};
+ghost use Rattle.rt_words.specs.Bytes.{word_bytes};
 
 use crate::image::{Image, ImageTask};
 use byteorder::{ByteOrder, LittleEndian};

@@ -1,5 +1,5 @@
-ghost use Rattle.std.specs.Prelude.{◌≡◌, ◌≤◌, None};
-ghost use Rattle.std.specs.Io.KnownBytes.{Consumes};
+ghost use Rattle.std.specs.Prelude.{◌≡◌, ◌≤◌, ◌↔◌, true, false, [], ◌∷◌, None, OnOk, IsErr};
+ghost use Rattle.std.specs.Io.KnownBytes.{Appends};
 ghost use Rattle.rt_words.specs.Causes.{Rose};
 ghost use Rattle.rt_outside.specs.Streams.{TakesNext};
 
@@ -17,11 +17,15 @@ pub struct InputSource<F> {
 }
 
 impl<F: Read> InputSource<F> {
-    pub fn new(reader: F) -> InputSource<F> {
+    pub fn new(reader: F) -> InputSource<F>
+        ensures reader { result.reader ≡ reader }
+        ensures begins { result.ended ≡ false }
+        ensures count { result.count.errors ≡ 0 }
+    {
         InputSource {
             reader,
             ended: false,
-            count: ErrorCount { errors: 0 },
+            count: ErrorCount::new(),
         }
     }
 }
@@ -33,7 +37,14 @@ impl<F: Read> Source for InputSource<F> {
 
     ghost faults = { λ s. s.count.errors };
 
-    fn next(&mut self) -> Next {
+    // The reader's next byte, until it has ended; from then on it isn't asked again.
+    fn next(&mut self) -> Next
+        ensures takes { self.old.ended ≡ false → TakesNext (F.remaining self.old.reader) result (F.remaining self.new.reader) }
+        ensures over { self.old.ended ≡ true → (result ≡ Next.End) × (self.new ≡ self.old) }
+        ensures ended { (self.new.ended ≡ true) ↔ (result ≡ Next.End) }
+        ensures failed { result ≡ Next.Failed → Rose self.old.count.errors self.new.count.errors }
+        ensures later { self.old.count.errors ≤ self.new.count.errors }
+    {
         if self.ended {
             return Next::End;
         }
@@ -76,10 +87,13 @@ pub struct OutputSink<F> {
 }
 
 impl<F: Write> OutputSink<F> {
-    pub fn new(writer: F) -> OutputSink<F> {
+    pub fn new(writer: F) -> OutputSink<F>
+        ensures writer { result.writer ≡ writer }
+        ensures count { result.count.errors ≡ 0 }
+    {
         OutputSink {
             writer,
-            count: ErrorCount { errors: 0 },
+            count: ErrorCount::new(),
         }
     }
 }
@@ -89,7 +103,12 @@ impl<F: Write> Sink for OutputSink<F> {
 
     ghost faults = { λ s. s.count.errors };
 
-    fn put(&mut self, byte: u8) -> Result<(), Failed> {
+    // The byte goes to the writer once.
+    fn put(&mut self, byte: u8) -> Result<(), Failed>
+        ensures ok { OnOk result (Appends (F.contents self.old.writer) (F.contents self.new.writer) (byte ∷ [])) }
+        ensures failed { IsErr result → Rose self.old.count.errors self.new.count.errors }
+        ensures later { self.old.count.errors ≤ self.new.count.errors }
+    {
         write_whole(&mut self.writer, &[byte], &mut self.count)
     }
 }

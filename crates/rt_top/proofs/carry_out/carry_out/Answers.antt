@@ -42,7 +42,7 @@ returns-in-OutputFailed g c = λ words files reads writes same before go accepts
     subst (λ f. ChangesOnly (image_name gg) f files1) same (subst (λ n. ChangesOnly n (g.S.Store.files c.args.store.now) files1) name c.in-Ok.ensures.others) in
     let cut = c.in-OutputFailed.ensures.ran image marks p.start_is in
     output_fails words gg files reads (g.S.Store.read_faults c.write.new.self) writes (g.S.Store.write_faults c.write.new.self) (g.O.Sink.written c.args.output.now) (g.O.Sink.written c.run.new.output) (g.O.Sink.faults c.args.output.now) (g.O.Sink.faults c.run.new.output) s m go accepts
-    files1 c.requires.fits c.requires.urgent has only cut.0 cut.1 cut.2 cut.3 (search rules)
+    files1 c.requires.fits c.requires.task has only cut.0 cut.1 cut.2 cut.3 (search rules)
 
 pub unreachable-requires : goal.unreachable-requires
 unreachable-requires g c =
@@ -52,7 +52,7 @@ unreachable-requires g c =
     let p = c.requires.prepared in
     let marks : image.marks ≡ c.as_slice-marks.result.now = sym (ap (λ i. i.marks) p.image_is) ∙ sym c.as_slice-marks.ensures in
     let fault = c.in-Faulted.ensures.ran image marks p.start_is in
-    subst (Meets image m []) (fault.1 []) ((faithful s m c.requires.fits c.requires.urgent).each [] c.args.go.now.limit)
+    subst (Meets image s m []) (fault.1 []) ((faithful s m c.requires.fits c.requires.task).each [] c.args.go.now.limit)
 
 pub returns-in-Ok-write : goal.returns-in-Ok-write
 returns-in-Ok-write g c = λ words files reads writes same before go accepts.
@@ -78,7 +78,7 @@ returns-in-Ok-write g c = λ words files reads writes same before go accepts.
     subst (λ t. WhereTold files2 (Has (report_name gg) t)) report (subst (λ n. WhereTold files2 (Has n c.as_slice-2.result.now)) name2 c.in-Ok-write.ensures.bytes) in
     subst (Ends words (the_call files files2 reads (g.S.Store.read_faults c.write-2.new.self) writes (g.S.Store.write_faults c.write-2.new.self) (g.O.Sink.written c.args.output.now) (g.O.Sink.written c.run.new.output) (g.O.Sink.faults c.args.output.now) (g.O.Sink.faults c.run.new.output))) (sym c.status_of_run.ensures)
     (runs words gg files reads (g.S.Store.read_faults c.write-2.new.self) writes (g.S.Store.write_faults c.write-2.new.self) (g.O.Sink.written c.args.output.now) (g.O.Sink.written c.run.new.output) (g.O.Sink.faults c.args.output.now) (g.O.Sink.faults c.run.new.output) s m go accepts
-    files1 files2 c.requires.fits c.requires.urgent has only then c.run.new.machine r told)
+    files1 files2 c.requires.fits c.requires.task has only then c.run.new.machine r told)
 
 pub returns-in-Err-write : goal.returns-in-Err-write
 returns-in-Err-write g c = λ words files reads writes same before go accepts.
@@ -104,4 +104,4 @@ returns-in-Err-write g c = λ words files reads writes same before go accepts.
     let first = c.in-Ok.ensures.writes_later (report_name gg) in
     let early = before (report_name gg) in
     report_fails words gg files reads (g.S.Store.read_faults c.write-2.new.self) writes (g.S.Store.write_faults c.write-2.new.self) (g.O.Sink.written c.args.output.now) (g.O.Sink.written c.run.new.output) (g.O.Sink.faults c.args.output.now) (g.O.Sink.faults c.run.new.output) s m go accepts
-    files1 files2 (g.S.Store.write_faults c.write.new.self) c.requires.fits c.requires.urgent has only then c.run.new.machine r (omega (arith, first, early)) rose
+    files1 files2 (g.S.Store.write_faults c.write.new.self) c.requires.fits c.requires.task has only then c.run.new.machine r (omega (arith, first, early)) rose

@@ -8,7 +8,7 @@ pub spelled-requires-clause-code : goal.spelled-requires-clause-code
 spelled-requires-clause-code c = subst (λ i. length i.code < 2 ^ 16) (sym c.in_ok-image.ensures) (code_small c.args.accepted.now.system c.args.accepted.now.module c.requires.fits)
 
 pub load-requires : goal.load-requires
-load-requires c = subst InRanges (sym c.in_ok-image.ensures) (faithful c.args.accepted.now.system c.args.accepted.now.module c.requires.fits c.requires.urgent).ranges
+load-requires c = subst InRanges (sym c.in_ok-image.ensures) (faithful c.args.accepted.now.system c.args.accepted.now.module c.requires.fits c.requires.task).ranges
 
 pub returns : goal.returns
 returns c = record {

@@ -1,7 +1,7 @@
 use Rattle.std.proofs.Common.{arith, sym, take, drop, length-drop, length, ap}
 use Rattle.std.proofs.lemmas.List.{take-append-drop}
-use Rattle.rt_top.proofs.Runs.{appends_keeps}
-use Rattle.rt_top.proofs.put.put_all.Goals as goal
+use Rattle.rt_outside.proofs.Appended.{appends_keeps}
+use Rattle.rt_outside.proofs.put.put_all.Goals as goal
 
 pub returns-in-Err-clause-err : goal.returns-in-Err-clause-err
 returns-in-Err-clause-err g c = record {

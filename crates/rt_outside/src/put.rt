@@ -1,9 +1,11 @@
+//! Bytes that are put one behind the other.
+
 ghost use Rattle.std.specs.Prelude.{◌≤◌, OnOk, OnErr, IsErr};
 ghost use Rattle.std.specs.Io.KnownBytes.{Appends};
 ghost use Rattle.rt_words.specs.Causes.{Rose};
-ghost use Rattle.rt_top.specs.Ends.{AppendsStart};
+ghost use Rattle.rt_outside.specs.Appending.{AppendsStart};
 
-use rt_outside::{Failed, Sink};
+use crate::sink::{Failed, Sink};
 
 /// Puts all the bytes; where a put fails a proper start of them was put.
 pub fn put_all<O: Sink>(output: &mut O, bytes: &[u8]) -> Result<(), Failed>

@@ -1,9 +1,0 @@
-use Rattle.std.proofs.Common.{◌≤◌, take}
-use Rattle.std.specs.Io.KnownBytes.{Appends}
-use Rattle.rtl2.proofs.tell.put_all.Given as goal
-
-abbrev pub invariant-loop-byte : goal.invariant-loop-byte
-invariant-loop-byte g l = record {
-  put : Appends (g.O.Sink.written l.initial.output) (g.O.Sink.written l.output) (take l.byte-index l.bytes);
-  later : g.O.Sink.faults l.initial.output ≤ g.O.Sink.faults l.output;
-}

@@ -1,0 +1,102 @@
+ghost use Rattle.std.specs.Prelude.{◌≡◌, ◌≢◌, ◌⊎◌, ℕ, List, Option, map, drop, string_bytes, IfOk, IfErr};
+ghost use Rattle.std.specs.IoError.{error_kind};
+ghost use Rattle.std.specs.Vec.Iter.{into_iter_items};
+ghost use Rattle.rt_top.specs.Ends.{the_call};
+ghost use Rattle.rt_top.specs.Headline.{NothingDone};
+ghost use Rattle.rt_top.specs.Report.{words_line};
+ghost use Rattle.rtl2.specs.Answers.{Answers, Tells};
+
+use crate::tell::tell;
+use crate::texts::{USAGE, VERSION};
+use rt_outside::{Sink, Source, Store};
+use rt_top::top;
+use std::alloc::{AllocError, Global};
+use std::env::Args;
+use std::io;
+use std::io::ErrorKind;
+
+const DONE: u8 = 0;
+
+const WRONG_WORDS: u8 = 10;
+
+const NO_MEMORY: u8 = 30;
+
+/// The status of the program for these arguments, of which the first is the program's name; none where they aren't all text.
+pub fn run<R: Eprint, S: Store, I: Source, O: Sink>(
+    rt: &R,
+    alloc: Global,
+    args: io::Result<Args>,
+    store: &mut S,
+    input: &mut I,
+    output: &mut O,
+) -> u8
+    // The words are the arguments without the first, unless memory for them is wanted.
+    ensures words { IfOk args (λ all. let c = the_call (S.files store.old) (S.files store.new)
+        (S.read_faults store.old) (S.read_faults store.new)
+        (S.write_faults store.old) (S.write_faults store.new)
+        (O.written output.old) (O.written output.new)
+        (O.faults output.old) (O.faults output.new) in
+        NothingDone c result ⊎ Answers (map string_bytes (drop 1 (into_iter_items all))) c result) }
+    ensures no_words { IfErr args (λ e. let c = the_call (S.files store.old) (S.files store.new)
+        (S.read_faults store.old) (S.read_faults store.new)
+        (S.write_faults store.old) (S.write_faults store.new)
+        (O.written output.old) (O.written output.new)
+        (O.faults output.old) (O.faults output.new) in
+        NothingDone c result ⊎ ((error_kind e ≢ ErrorKind.OutOfMemory) × Tells words_line 10 c result)) }
+    ensures input { input.new ≡ input.old }
+{
+    match args {
+        Ok(args) => match words_of(alloc, args) {
+            Ok(words) => answer(rt, alloc, &words, store, input, output),
+            Err(_) => NO_MEMORY,
+        },
+        Err(error) => match error.kind() {
+            ErrorKind::OutOfMemory => NO_MEMORY,
+            _ => with_usage(rt, tell(output, "FAULT 10\n", WRONG_WORDS)),
+        },
+    }
+}
+
+/// The words without the program's name.
+pub fn words_of(alloc: Global, mut args: Args) -> Result<Vec<String>, AllocError>
+    ensures { IfOk result (λ words. words.items ≡ drop 1 (into_iter_items args)) }
+{
+    let _ = args.next();
+    args.collect(alloc)
+}
+
+/// The status for these words.
+pub fn answer<R: Eprint, S: Store, I: Source, O: Sink>(
+    rt: &R,
+    alloc: Global,
+    words: &[String],
+    store: &mut S,
+    input: &mut I,
+    output: &mut O,
+) -> u8
+    ensures answers { Answers (map string_bytes words.now) (the_call (S.files store.old) (S.files store.new)
+        (S.read_faults store.old) (S.read_faults store.new)
+        (S.write_faults store.old) (S.write_faults store.new)
+        (O.written output.old) (O.written output.new)
+        (O.faults output.old) (O.faults output.new)) result }
+    ensures input { input.new ≡ input.old }
+{
+    if let [word] = words {
+        match word.as_str() {
+            "--help" => return tell(output, USAGE, DONE),
+            "--version" => return tell(output, VERSION, DONE),
+            _ => {}
+        }
+    }
+    with_usage(rt, top(alloc, words, store, input, output))
+}
+
+// The same status; for wrong words the usage is written on standard error.
+fn with_usage<R: Eprint>(rt: &R, status: u8) -> u8
+    ensures { result ≡ status }
+{
+    if status == WRONG_WORDS {
+        let _ = rt.eprint(USAGE);
+    }
+    status
+}
