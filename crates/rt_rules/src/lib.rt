@@ -10,8 +10,6 @@ mod laws;
 mod rules;
 mod service;
 mod task;
-#[cfg(test)]
-mod tests;
 
 pub use laws::{
     clock_and_stamp_stay_low, delay_is_over, first_is_least, owners_keep_facilities, ranges_stand,

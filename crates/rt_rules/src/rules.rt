@@ -79,6 +79,17 @@ impl Rules {
         ensures ranges { InRanges self.new }
     {
         let running = self.running();
+        self.tick_of(running);
+    }
+
+    /// Takes a tick where the caller knows which task runs, as [`Rules::tick`] does. It looks for no task.
+    pub fn tick_of(&mut self, running: Option<u8>)
+        requires runs { running ≡ spec.running self.old }
+        requires stamp { self.old.stamp < 2 ^ 63 }
+        requires clock { self.old.clock < 2 ^ 32 - 1 }
+        ensures tick { self.new ≡ spec.tick self.old }
+        ensures ranges { InRanges self.new }
+    {
         self.clock += 1;
         if let Some(task) = running {
             self.arrives(task, State::Ready);
@@ -101,8 +112,9 @@ impl Rules {
         }
     }
 
-    // Each service of the ready task `task` is the definition's of that name.
-    fn serve(&mut self, task: u8, svc: Svc) -> Outcome
+    /// Does a service of the ready task `task`, where the caller knows which task runs, as [`Rules::call`] does it.
+    /// Each service is the definition's of that name. It looks for no running task, and takes no memory.
+    pub fn serve(&mut self, task: u8, svc: Svc) -> Outcome
         requires ready { IsReady self.old task }
         requires stamp { self.old.stamp < 2 ^ 63 }
         ensures { (self.new, result) ≡ spec.serve self.old task svc }
@@ -118,6 +130,21 @@ impl Rules {
             Svc::Gel(error) => self.ends(task, State::Failed(error)),
             Svc::End => self.ends(task, State::Ended),
         }
+    }
+
+    /// Lends the tasks' rows, in the order of their numbers.
+    pub fn tasks(&self) -> &[TaskRow]
+        ensures rows { result.now ≡ self.now.tasks }
+        ensures ranges { InRanges self.now }
+    {
+        self.tasks.as_slice()
+    }
+
+    /// The stamp that the next task to arrive or to wait will take.
+    pub fn next_stamp(&self) -> u64
+        ensures { result ≡ self.now.stamp }
+    {
+        self.stamp
     }
 
     fn delay(&mut self, task: u8, ticks: u16) -> Outcome

@@ -1,0 +1,10 @@
+pub mod Marked
+pub mod Tabled
+pub mod Listed
+pub mod Follows
+pub mod Leaving
+pub mod Joining
+pub mod Heads
+pub mod Places
+pub mod Counted
+pub mod Ticked
