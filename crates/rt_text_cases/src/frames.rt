@@ -1,0 +1,71 @@
+//! Frames of procedures: parameters, locals, the greatest depth, and the points where they call.
+
+use crate::case::{Case, text_with};
+use crate::expand::write_bytes;
+use crate::faults::tell;
+use crate::stop::Stop;
+use crate::systems::brick_named;
+use rt_check::typed_module;
+use rt_frames::{CallPoint, Frame, Target, frame_of};
+use rt_tree::TypedModule;
+use std::alloc::Global;
+use std::fmt::Write;
+
+/// Writes the frame of a procedure of the last text, from its name and a piece.
+pub fn frame(alloc: Global, case: &Case, rest: &str, out: &mut String) -> Result<(), Stop> {
+    let (name, piece) = rest.split_once(' ').unwrap_or((rest, ""));
+    let text = text_with(alloc, case.frame(), piece)?;
+    frame_in(alloc, text.as_str(), name, out)
+}
+
+fn frame_in(alloc: Global, text: &str, name: &str, out: &mut String) -> Result<(), Stop> {
+    if text.len() > 4194304 {
+        return Err(Stop::Line);
+    }
+    match typed_module(alloc, text.as_bytes()) {
+        Ok(module) => frame_named(alloc, &module, name, out),
+        Err(fault) => tell(&fault, out),
+    }
+}
+
+fn frame_named(
+    alloc: Global,
+    module: &TypedModule,
+    name: &str,
+    out: &mut String,
+) -> Result<(), Stop> {
+    match brick_named(module, name.as_bytes()) {
+        Some(brick) if module.is_procedure(brick) => {
+            let frame = frame_of(alloc, module, brick)?;
+            show_frame(module, &frame, out)
+        }
+        _ => Err(Stop::Line),
+    }
+}
+
+fn show_frame(module: &TypedModule, frame: &Frame, out: &mut String) -> Result<(), Stop> {
+    let (params, locals, deep) = (frame.params, frame.locals, frame.deep);
+    write!(out, " {params} {locals} {deep}")?;
+    for point in frame.calls.as_slice() {
+        show_point(module, point, out)?;
+    }
+    Ok(())
+}
+
+fn show_point(module: &TypedModule, point: &CallPoint, out: &mut String) -> Result<(), Stop> {
+    out.push_str("; ")?;
+    match &point.target {
+        Target::Brick(number) => show_name(module, *number, out)?,
+        Target::Variable(_) => out.push_str("variable")?,
+        Target::Error => out.push_str("error")?,
+    }
+    let (args, depth) = (point.args, point.depth);
+    Ok(write!(out, " {args} above {depth}")?)
+}
+
+fn show_name(module: &TypedModule, number: u16, out: &mut String) -> Result<(), Stop> {
+    match module.bricks().get(usize::from(number)) {
+        Some(brick) => write_bytes(out, brick.name.as_slice()),
+        None => Err(Stop::Line),
+    }
+}

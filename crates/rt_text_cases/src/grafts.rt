@@ -1,0 +1,181 @@
+//! Typed trees that no text gives: the tree of one text with a part of that of another, or without one of its records.
+
+use crate::case::{Case, text_with};
+use crate::expand::number;
+use crate::stop::Stop;
+use rt_bricks::{Module, parse_module};
+use rt_check::{read_module, typed_module};
+use rt_items::{Item, items};
+use rt_tree::{Body, Brick, BrickSort, Labelled, ModuleParts, ProcBody, TypedModule};
+use rt_words::List;
+use std::alloc::Global;
+use std::fmt::Write;
+
+fn parts_of(alloc: Global, text: &str) -> Result<ModuleParts, Stop> {
+    if text.len() > 4194304 {
+        return Err(Stop::Line);
+    }
+    match items(alloc, text.as_bytes()) {
+        Ok(all) => parts_in(alloc, all.as_slice()),
+        Err(_) => Err(Stop::Line),
+    }
+}
+
+fn parts_in(alloc: Global, all: &[Item]) -> Result<ModuleParts, Stop> {
+    match parse_module(alloc, all) {
+        Ok(source) => parts_from(alloc, &source),
+        Err(_) => Err(Stop::Line),
+    }
+}
+
+fn parts_from(alloc: Global, source: &Module) -> Result<ModuleParts, Stop> {
+    match read_module(alloc, source) {
+        Ok(parts) => Ok(parts),
+        Err(_) => Err(Stop::Line),
+    }
+}
+
+fn tell_fit(parts: ModuleParts, out: &mut String) -> Result<(), Stop> {
+    let word = match TypedModule::new(parts) {
+        Some(_) => " fits",
+        None => " unfit",
+    };
+    Ok(out.push_str(word)?)
+}
+
+fn last_brick(alloc: Global, text: &str) -> Result<Brick, Stop> {
+    let mut parts = parts_of(alloc, text)?;
+    match parts.bricks.pop() {
+        Some(brick) => Ok(brick),
+        None => Err(Stop::Line),
+    }
+}
+
+/// Whether the first text fits with the last brick of another text in place of its last one.
+pub fn graft_brick(alloc: Global, case: &Case, text: &str, out: &mut String) -> Result<(), Stop> {
+    let brick = last_brick(alloc, text)?;
+    with_brick(alloc, case.frame(), brick, out)
+}
+
+fn with_brick(alloc: Global, first: &str, brick: Brick, out: &mut String) -> Result<(), Stop> {
+    let mut parts = parts_of(alloc, first)?;
+    let _ = parts.bricks.pop();
+    parts.bricks.push(brick)?;
+    tell_fit(parts, out)
+}
+
+/// Whether the first text fits with the last statement of another text in place of its last one.
+pub fn graft_line(alloc: Global, case: &Case, text: &str, out: &mut String) -> Result<(), Stop> {
+    let line = line_of(alloc, text)?;
+    let mut brick = last_brick(alloc, case.frame())?;
+    end_in(&mut brick, line)?;
+    with_brick(alloc, case.frame(), brick, out)
+}
+
+fn line_of(alloc: Global, text: &str) -> Result<Labelled, Stop> {
+    let mut brick = last_brick(alloc, text)?;
+    match last_line(&mut brick) {
+        Some(line) => Ok(line),
+        None => Err(Stop::Line),
+    }
+}
+
+fn last_line(brick: &mut Brick) -> Option<Labelled> {
+    match &mut brick.sort {
+        BrickSort::Proc(_, body) => match body {
+            Some(procedure) => procedure.body.statements.pop(),
+            None => None,
+        },
+        _ => None,
+    }
+}
+
+fn end_in(brick: &mut Brick, line: Labelled) -> Result<(), Stop> {
+    end_sort(&mut brick.sort, line)
+}
+
+fn end_sort(sort: &mut BrickSort, line: Labelled) -> Result<(), Stop> {
+    match sort {
+        BrickSort::Proc(_, body) => end_any(body, line),
+        _ => Err(Stop::Line),
+    }
+}
+
+fn end_any(body: &mut Option<ProcBody>, line: Labelled) -> Result<(), Stop> {
+    match body {
+        Some(procedure) => end_body(&mut procedure.body, line),
+        None => Err(Stop::Line),
+    }
+}
+
+fn end_body(body: &mut Body, line: Labelled) -> Result<(), Stop> {
+    put_last(&mut body.statements, line)
+}
+
+fn put_last(statements: &mut List<Labelled>, line: Labelled) -> Result<(), Stop> {
+    let _ = statements.pop();
+    Ok(statements.push(line)?)
+}
+
+/// Whether a text fits without the last of its records.
+pub fn cut(alloc: Global, text: &str, out: &mut String) -> Result<(), Stop> {
+    let mut parts = parts_of(alloc, text)?;
+    let _ = parts.modes.records.pop();
+    tell_fit(parts, out)
+}
+
+/// Writes which bricks of a text are procedures of its own, and the bound of the last one before and after it is set.
+pub fn bound(alloc: Global, case: &Case, rest: &str, out: &mut String) -> Result<(), Stop> {
+    let most = u16::try_from(number(rest)?).unwrap_or(0);
+    let text = text_with(alloc, case.frame(), "")?;
+    bound_in(alloc, text.as_str(), most, out)
+}
+
+fn bound_in(alloc: Global, text: &str, most: u16, out: &mut String) -> Result<(), Stop> {
+    if text.len() > 4194304 {
+        return Err(Stop::Line);
+    }
+    match typed_module(alloc, text.as_bytes()) {
+        Ok(module) => show_bound(module, most, out),
+        Err(_) => Err(Stop::Line),
+    }
+}
+
+fn show_bound(module: TypedModule, most: u16, out: &mut String) -> Result<(), Stop> {
+    let mut module = module;
+    let last = show_procedures(&module, out)?;
+    show_most(&module, last, out)?;
+    if module.is_procedure(last) {
+        module.bound(last, most);
+    }
+    show_most(&module, last, out)
+}
+
+// Writes which bricks are procedures of the module, and answers the last one.
+fn show_procedures(module: &TypedModule, out: &mut String) -> Result<u16, Stop> {
+    let mut last = 0;
+    for brick in 0..1000u16 {
+        if module.is_procedure(brick) {
+            write!(out, " {brick}")?;
+            last = brick;
+        }
+    }
+    Ok(last)
+}
+
+fn show_most(module: &TypedModule, brick: u16, out: &mut String) -> Result<(), Stop> {
+    match module.bricks().get(usize::from(brick)) {
+        Some(found) => show_most_of(&found.sort, out),
+        None => Err(Stop::Line),
+    }
+}
+
+fn show_most_of(sort: &BrickSort, out: &mut String) -> Result<(), Stop> {
+    match sort {
+        BrickSort::Proc(_, Some(procedure)) => {
+            let most = procedure.most;
+            Ok(write!(out, " most {most}")?)
+        }
+        _ => Err(Stop::Line),
+    }
+}
