@@ -41,21 +41,15 @@ fn line(alloc: Global, stat: Stat) -> Result<Labelled, Fail> {
     marked(alloc, &[], stat)
 }
 
-fn ending_in(alloc: Global, procedure: ProcBody, stat: Stat) -> Result<ProcBody, Fail> {
-    let mut procedure = procedure;
+fn end_in(alloc: Global, procedure: &mut ProcBody, stat: Stat) -> Result<(), Fail> {
     let _ = procedure.body.statements.pop();
     procedure.body.statements.push(line(alloc, stat)?)?;
-    Ok(procedure)
+    Ok(())
 }
 
-fn brick_ending_in(alloc: Global, brick: Brick, stat: Stat) -> Result<Brick, Fail> {
-    let Brick { kind, name, sort } = brick;
-    match sort {
-        BrickSort::Proc(mode, Some(procedure)) => {
-            let procedure = ending_in(alloc, procedure, stat)?;
-            let sort = BrickSort::Proc(mode, Some(procedure));
-            Ok(Brick { kind, name, sort })
-        }
+fn end_brick_in(alloc: Global, brick: &mut Brick, stat: Stat) -> Result<(), Fail> {
+    match &mut brick.sort {
+        BrickSort::Proc(_, Some(procedure)) => end_in(alloc, procedure, stat),
         _ => Err("no procedure".into()),
     }
 }
@@ -63,8 +57,9 @@ fn brick_ending_in(alloc: Global, brick: Brick, stat: Stat) -> Result<Brick, Fai
 /// The module of a text with this as the last statement of its last brick; `None` where it doesn't fit.
 fn module(alloc: Global, text: &str, stat: Stat) -> Result<Option<TypedModule>, Fail> {
     let mut parts = parts_of(alloc, text)?;
-    let brick = parts.bricks.pop().ok_or("no brick")?;
-    parts.bricks.push(brick_ending_in(alloc, brick, stat)?)?;
+    let mut brick = parts.bricks.pop().ok_or("no brick")?;
+    end_brick_in(alloc, &mut brick, stat)?;
+    parts.bricks.push(brick)?;
     Ok(TypedModule::new(parts))
 }
 
