@@ -2,7 +2,6 @@
 
 use crate::calls::describe_top;
 use crate::first::{describe_module, describe_system};
-use crate::rules::{describe_do, describe_repeat, describe_tasks};
 use crate::state::State;
 use crate::stores::{
     describe_file, describe_held, describe_kept, describe_read, describe_store, describe_write,
@@ -82,9 +81,6 @@ fn answer_texts(
     match kind {
         "system" => describe_system(alloc, rest, &mut state.system, out),
         "module" => describe_module(alloc, rest, &state.system, out),
-        "tasks" => describe_tasks(alloc, rest, &mut state.rules, out),
-        "do" => describe_do(rest, &mut state.rules, out),
-        "repeat" => describe_repeat(rest, &mut state.rules, out),
         _ => answer_streams(alloc, kind, rest, out),
     }
 }

@@ -1,20 +1,18 @@
 //! What earlier lines have left.
 
 use rt_outside::MemStore;
-use rt_rules::Rules;
 use rt_words::{Bytes, List, Name};
 use std::alloc::Global;
 
 /// Files by name, the first of a name first.
 pub type Files = List<(Name, Bytes)>;
 
-/// The files, the store that was made of them, the system text, and the rules.
+/// The files, the store that was made of them, and the system text.
 #[derive(Drop)]
 pub struct State {
     pub files: Files,
     pub store: Option<MemStore>,
     pub system: Bytes,
-    pub rules: Option<Rules>,
 }
 
 impl State {
@@ -24,7 +22,6 @@ impl State {
             files: List::from_vec(Vec::new(alloc)),
             store: None,
             system: List::from_vec(Vec::new(alloc)),
-            rules: None,
         }
     }
 }
