@@ -1,7 +1,12 @@
 pub mod Tests
+pub mod Words
 pub mod Runs
 pub mod LineReads
 pub mod Says
 pub mod NumberReads
 pub mod TickLineReads
 pub mod TickReads
+pub mod FieldReads
+pub mod SystemLineReads
+pub mod SystemLimits
+pub mod SystemReads

@@ -32,7 +32,7 @@ number_is most t n h le =
     let test = number_passes (length t) (digits_value t) most (list_all is_digit t) h.some (all_is is_digit IsDigit digit_is t h.digits) (subst (λ (v : ℕ). v ≤ most) (sym h.value) le) in
     ap (λ (b : Bool). cond b (Some (digits_value t)) None) test ∙ ap (λ (v : ℕ). Some v) h.value
 
-plain_by : {A : Type 0} (b : Bool) (o : Option A) (x : A) → cond b None o ≡ Some x → (b ≡ false) × (o ≡ Some x)
+pub plain_by : {A : Type 0} (b : Bool) (o : Option A) (x : A) → cond b None o ≡ Some x → (b ≡ false) × (o ≡ Some x)
 plain_by true o x e = none_some e
 plain_by false o x e = (refl, e)
 

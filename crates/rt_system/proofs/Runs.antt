@@ -1,21 +1,11 @@
 -- The run of bytes at the front of a text that pass a test.
 use Rattle.std.proofs.Common.{◌≡◌, ℕ, suc, ◌+◌, Bool, true, false, cond, List, [], ◌∷◌, ◌++◌, length, take, drop, refl, sym, ap, subst, ◌∙◌, arith}
 use Rattle.std.specs.Prelude.{take_while}
-use Rattle.std.specs.List.{prefix_len, AllByRecursion}
+use Rattle.std.specs.List.{prefix_len, AllByRecursion, list_all}
 use Rattle.std.proofs.lemmas.List.{take_at, drop_at}
-
--- the bytes at the front of a text that pass a test, and the rest
-abbrev pub run : (ℕ → Bool) → List ℕ → List ℕ × List ℕ
-run test l = let n = length (take_while test l) in (take n l, drop n l)
-
-abbrev pub Each : (ℕ → Bool) → List ℕ → Type 0
-Each p [] = Unit {0}
-Each p (c ∷ cs) = (p c ≡ true) × Each p cs
-
--- the run does not go on
-abbrev pub Ends : (ℕ → Bool) → List ℕ → Type 0
-Ends p [] = Unit {0}
-Ends p (c ∷ cs) = p c ≡ false
+use Rattle.rt_pieces.specs.Bytes.{Each, Ends}
+use Rattle.rt_system.specs.Reading.{run}
+use Rattle.rt_system.proofs.Tests.{and_parts, and_both}
 
 front : (ℕ → Bool) → List ℕ → List ℕ
 front p [] = []
@@ -98,3 +88,19 @@ run_sound p l a b e =
 pub each_of : (p : ℕ → Bool) (P : ℕ → Type 0) → ((c : ℕ) → P c → p c ≡ true) → (l : List ℕ) → AllByRecursion P l → Each p l
 each_of p P f [] h = tt
 each_of p P f (c ∷ cs) h = (f c h.0, each_of p P f cs h.1)
+
+pub all_of : (p : ℕ → Bool) (P : ℕ → Type 0) → ((c : ℕ) → p c ≡ true → P c) → (l : List ℕ) → Each p l → AllByRecursion P l
+all_of p P f [] h = tt
+all_of p P f (c ∷ cs) h = (f c h.0, all_of p P f cs h.1)
+
+pub list_each : (p : ℕ → Bool) (l : List ℕ) → list_all p l ≡ true → Each p l
+list_each p [] h = tt
+list_each p (c ∷ cs) h = let k = and_parts (p c) (list_all p cs) h in (k.0, list_each p cs k.1)
+
+pub each_list : (p : ℕ → Bool) (l : List ℕ) → Each p l → list_all p l ≡ true
+each_list p [] h = refl
+each_list p (c ∷ cs) h = and_both (p c) (list_all p cs) h.0 (each_list p cs h.1)
+
+pub each_behind : (p : ℕ → Bool) (a b : List ℕ) → Each p (a ++ b) → Each p b
+each_behind p [] b h = h
+each_behind p (c ∷ a) b h = each_behind p a b h.1

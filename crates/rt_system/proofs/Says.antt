@@ -1,5 +1,6 @@
 -- Lists of lines and what each of them says; the first line that breaks a rule is one line.
-use Rattle.std.proofs.Common.{◌≡◌, ℕ, zero, suc, ◌-◌, ◌<◌, ◌≤◌, List, [], ◌∷◌, ◌++◌, take, drop, refl, sym, ap, subst, ◌∙◌, arith}
+use Rattle.std.proofs.Common.{◌≡◌, ℕ, zero, suc, ◌-◌, ◌<◌, ◌≤◌, List, [], ◌∷◌, ◌++◌, length, take, drop, refl, sym, ap, subst, ◌∙◌, append_assoc, arith}
+use Rattle.std.specs.Prelude.{flat_map}
 use Rattle.std.proofs.lemmas.List.{take-append-drop, take-take}
 use Rattle.rt_system.specs.Lines.{lines, Say, IsFirstBad}
 
@@ -35,6 +36,16 @@ module _ {K : Type 0} (P : List ℕ → K → Type 0) where
       let first = same l k m h.0 i.0 in
       let rest = says_one same ls ks ms h.1 i.1 in
       cc
+
+pub says_length : {K : Type 0} (P : List ℕ → K → Type 0) (ls : List (List ℕ)) (ks : List K) → Say P ls ks → length ks ≡ length ls
+says_length P [] [] h = refl
+says_length P [] (k ∷ ks) h = absurd h
+says_length P (l ∷ ls) [] h = absurd h
+says_length P (l ∷ ls) (k ∷ ks) h = let e = says_length P ls ks h.1 in omega arith
+
+pub flat_map_append : {A B : Type 0} (f : A → List B) (xs ys : List A) → flat_map f (xs ++ ys) ≡ flat_map f xs ++ flat_map f ys
+flat_map_append f [] ys = refl
+flat_map_append f (x ∷ xs) ys = ap (λ t. f x ++ t) (flat_map_append f xs ys) ∙ sym (append_assoc (f x) (flat_map f xs) (flat_map f ys))
 
 -- ---- the first elements of a list
 

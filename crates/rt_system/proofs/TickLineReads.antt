@@ -4,22 +4,23 @@ use Rattle.std.specs.Prelude.{take_while}
 use Rattle.std.specs.List.{AllByRecursion, list_all, prefix_len}
 use Rattle.std.proofs.lemmas.Bool.Decides.{nat_tests}
 use Rattle.std.proofs.lemmas.List.{length-take, length-drop}
+use Rattle.rt_pieces.specs.Bytes.{Ends}
 use Rattle.rt_system.specs.Lines.{IsBlank}
 use Rattle.rt_system.specs.Numbers.{IsDigit}
-use Rattle.rt_system.specs.Reading.{is_blank, number, plain_number}
+use Rattle.rt_system.specs.Reading.{is_blank, number, plain_number, run}
 use Rattle.rt_system.specs.Ticks.{IsGap, IsRepeated, IsTickLine}
 use Rattle.rt_system.specs.ReadingTicks.{is_no_star, gap, with_count, repeated, one_or, tick_line}
 use Rattle.rt_system.specs.declared.ticks.TickLine.{TickLine}
 use Rattle.rt_system.specs.declared.ticks.TickLine.TheVariants.{Blank, Gap, Gaps}
 use Rattle.rt_system.proofs.Tests.{none_some, some_inj, all_means, all_is}
-use Rattle.rt_system.proofs.Runs.{Ends, run, run_sound, run_complete, each_of}
+use Rattle.rt_system.proofs.Runs.{run_sound, run_complete, each_of}
 use Rattle.rt_system.proofs.Says.{takes_next}
 use Rattle.rt_system.proofs.NumberReads.{number_means, number_is, plain_means, plain_is}
 
-blank_is : (c : ℕ) → IsBlank c → is_blank c ≡ true
+pub blank_is : (c : ℕ) → IsBlank c → is_blank c ≡ true
 blank_is c h = grind (arith, nat_tests)
 
-blank_means : (c : ℕ) → is_blank c ≡ true → IsBlank c
+pub blank_means : (c : ℕ) → is_blank c ≡ true → IsBlank c
 blank_means c h = grind (arith, nat_tests)
 
 digit_no_blank : (c : ℕ) → IsDigit c → is_blank c ≡ false
@@ -33,14 +34,14 @@ star_means c h = grind (arith, nat_tests)
 
 -- ---- a gap
 
-gap_by : {A : Type 0} (b : Bool) (o : Option A) (x : A) → cond b o None ≡ Some x → (b ≡ true) × (o ≡ Some x)
+pub gap_by : {A : Type 0} (b : Bool) (o : Option A) (x : A) → cond b o None ≡ Some x → (b ≡ true) × (o ≡ Some x)
 gap_by true o x e = (refl, e)
 gap_by false o x e = none_some e
 
-le_means : (n m : ℕ) → nat_le n m ≡ true → n ≤ m
+pub le_means : (n m : ℕ) → nat_le n m ≡ true → n ≤ m
 le_means n m h = grind (arith, nat_tests)
 
-le_is : (n m : ℕ) → n ≤ m → nat_le n m ≡ true
+pub le_is : (n m : ℕ) → n ≤ m → nat_le n m ≡ true
 le_is n m h = grind (arith, nat_tests)
 
 gap_means : (t : List ℕ) (n : ℕ) → gap t ≡ Some n → IsGap t n

@@ -1,5 +1,5 @@
 -- A tick text is read line by line.
-use Rattle.std.proofs.Common.{◌≡◌, ℕ, zero, suc, ◌+◌, ◌-◌, ◌⊎◌, inl, inr, ◌≤◌, List, [], ◌∷◌, ◌++◌, length, take, drop, replicate, Result, Ok, Err, IfOk, IfErr, Some, refl, sym, ap, subst, ◌∙◌, append_assoc, add-one, arith}
+use Rattle.std.proofs.Common.{◌≡◌, ℕ, zero, suc, ◌+◌, ◌-◌, ◌⊎◌, inl, inr, ◌≤◌, List, [], ◌∷◌, ◌++◌, length, take, drop, replicate, Result, Ok, Err, IfOk, IfErr, Some, refl, sym, ap, subst, ◌∙◌, add-one, arith}
 use Rattle.std.specs.Prelude.{flat_map}
 use Rattle.std.specs.List.{AllByRecursion}
 use Rattle.std.proofs.lemmas.List.{length-append, flat_map_more}
@@ -13,15 +13,11 @@ use Rattle.rt_system.specs.declared.ticks.TickLine.TheVariants.{Blank, Gap, Gaps
 use Rattle.rt_system.specs.declared.fault.LineFault.{LineFault}
 use Rattle.rt_system.specs.declared.fault.LineFault.TheVariants.{Memory, BadLine, ObjectLine}
 use Rattle.rt_system.proofs.LineReads.{first_of_lines, no_lines}
-use Rattle.rt_system.proofs.Says.{says_more, says_split, says_one, takes_next, takes_all, HasGoodFronts, one_bad, none_bad}
+use Rattle.rt_system.proofs.Says.{flat_map_append, says_more, says_split, says_one, takes_next, takes_all, HasGoodFronts, one_bad, none_bad}
 use Rattle.rt_system.proofs.TickLineReads.{tick_line_means, tick_line_is, one_kind}
 
 abbrev HasTicks : List (List ℕ) → Type 0
 HasTicks ls = (gaps : List ℕ) × AreTicks ls gaps
-
-flat_map_append : (xs ys : List TickLine) → flat_map ticks_of (xs ++ ys) ≡ flat_map ticks_of xs ++ flat_map ticks_of ys
-flat_map_append [] ys = refl
-flat_map_append (x ∷ xs) ys = ap (λ (t : List ℕ). ticks_of x ++ t) (flat_map_append xs ys) ∙ sym (append_assoc (ticks_of x) (flat_map ticks_of xs) (flat_map ticks_of ys))
 
 shorter : (a b c : List ℕ) → a ≡ b ++ c → length a ≤ 200000 → length b ≤ 200000
 shorter a b c e le = omega (arith, ap length e, length-append b c)
@@ -29,7 +25,7 @@ shorter a b c e le = omega (arith, ap length e, length-append b c)
 fronts : HasGoodFronts HasTicks
 fronts a b h =
     let s = says_split IsTickLine a b h.1.kinds h.1.each in
-    let e = h.1.are ∙ ap (flat_map ticks_of) s.parts ∙ flat_map_append s.left s.right in (
+    let e = h.1.are ∙ ap (flat_map ticks_of) s.parts ∙ flat_map_append ticks_of s.left s.right in (
       flat_map ticks_of s.left,
       record {
         kinds = s.left;

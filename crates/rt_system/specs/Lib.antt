@@ -4,3 +4,9 @@ pub mod TickRanges
 pub mod Ticks
 pub mod Reading
 pub mod ReadingTicks
+pub mod Fields
+pub mod SystemRanges
+pub mod Systems
+pub mod ReadingSystems
+pub mod Library
+pub mod Laws

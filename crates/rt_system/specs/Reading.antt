@@ -1,5 +1,5 @@
 -- How lines and numbers are read.
-use Rattle.std.specs.Prelude.{ℕ, ◌+◌, ◌-◌, Bool, ◌&&◌, ◌||◌, ◌==◌, nat_le, if◌then◌else◌, not, List, [], ◌∷◌, length, take, drop, take_while, slice_index, Option, Some, None}
+use Rattle.std.specs.Prelude.{ℕ, ◌+◌, ◌-◌, Bool, ◌&&◌, ◌||◌, ◌==◌, nat_le, if◌then◌else◌, not, List, [], ◌∷◌, length, take, drop, take_while, slice_index, Option, Some, None, ◌≡◌}
 use Rattle.std.specs.List.{list_all}
 use Rattle.rt_system.specs.Numbers.{digits_value}
 
@@ -31,3 +31,12 @@ number most text = if nat_le 1 (length text) && list_all is_digit text && nat_le
 unfoldable pub plain_number : ℕ → List ℕ → Option ℕ
 plain_number most [] = None
 plain_number most (c ∷ cs) = if c == 48 then None else number most (c ∷ cs)
+
+-- the bytes at the front of a text that pass a test, and the rest
+abbrev pub run : (ℕ → Bool) → List ℕ → List ℕ × List ℕ
+run test text = let n = length (take_while test text) in (take n text, drop n text)
+
+-- what a function that reads ensures: the outcome, as lists
+abbrev pub Gives : {X Y : Type 0} → (X → Y) → Option X → Option Y → Type 0
+Gives view (Some x) read = read ≡ Some (view x)
+Gives view None read = read ≡ None

@@ -10,7 +10,8 @@ fn is_inside(byte: u8) -> bool
     byte != b'\n'
 }
 
-fn is_blank(byte: u8) -> bool
+/// A space or a tab.
+pub fn is_blank(byte: u8) -> bool
     ensures { result ≡ spec.is_blank byte }
 {
     byte == b' ' || byte == b'\t'

@@ -1,6 +1,6 @@
 //! Numbers in decimal digits.
 
-ghost use Rattle.std.specs.Prelude.{◌≡◌, ◌≤◌, min};
+ghost use Rattle.std.specs.Prelude.{◌≡◌, ◌≤◌, min, IfSome};
 ghost use Rattle.std.specs.List.{list_all};
 ghost use Rattle.rt_system.specs.Numbers.{digits_value};
 ghost use Rattle.rt_system.specs.Reading as spec;
@@ -35,7 +35,8 @@ fn value(digits: &[u8]) -> u64
 #[tactic(auto, unfolding(crate::specs::Reading::number))]
 pub fn number(most: u32, text: &[u8]) -> Option<u32>
     requires { most ≤ 4000000000 }
-    ensures { result ≡ spec.number most text.now }
+    ensures value { result ≡ spec.number most text.now }
+    ensures within { IfSome result (λ n. n ≤ most) }
 {
     if text.is_empty() || !are_digits(text) {
         return None;
@@ -51,7 +52,8 @@ pub fn number(most: u32, text: &[u8]) -> Option<u32>
 #[tactic(auto, unfolding(crate::specs::Reading::plain_number))]
 pub fn plain_number(most: u32, text: &[u8]) -> Option<u32>
     requires { most ≤ 4000000000 }
-    ensures { result ≡ spec.plain_number most text.now }
+    ensures value { result ≡ spec.plain_number most text.now }
+    ensures within { IfSome result (λ n. n ≤ most) }
 {
     match text {
         [] => None,
