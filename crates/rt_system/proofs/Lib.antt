@@ -10,3 +10,4 @@ pub mod FieldReads
 pub mod SystemLineReads
 pub mod SystemLimits
 pub mod SystemReads
+pub mod SomeReading

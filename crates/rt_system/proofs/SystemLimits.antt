@@ -1,7 +1,7 @@
 -- The limits and ranges of a system.
-use Rattle.std.proofs.Common.{◌≡◌, ◌≢◌, ℕ, zero, suc, ◌+◌, ◌-◌, ◌*◌, ◌≤◌, ◌<◌, Bool, true, false, not, ◌&&◌, ◌||◌, cond, nat_lt, List, [], ◌∷◌, ◌++◌, length, get_or, map, fold, refl, sym, ap, subst, ◌∙◌, arith}
+use Rattle.std.proofs.Common.{◌≡◌, ◌≢◌, ℕ, ◌+◌, ◌-◌, ◌*◌, ◌≤◌, ◌<◌, Bool, true, false, not, ◌||◌, cond, nat_lt, List, [], ◌∷◌, ◌++◌, length, map, fold, refl, sym, ap, subst, ◌∙◌, arith}
 use Rattle.std.specs.Prelude.{count_by, flat_map}
-use Rattle.std.specs.List.{AllByRecursion, list_any, sum_by}
+use Rattle.std.specs.List.{AllByRecursion, list_any}
 use Rattle.std.specs.Str.{bytes_eq}
 use Rattle.std.proofs.lemmas.Bool.Decides.{nat_tests}
 use Rattle.std.proofs.lemmas.List.{length-append, length-map, append-nil}
@@ -10,17 +10,17 @@ use Rattle.rt_words.specs.Named.{IsNameLength}
 use Rattle.rt_pieces.specs.Bytes.{Each, upper, is_letter, is_letter_or_digit}
 use Rattle.rt_pieces.specs.Pieces.{IsName}
 use Rattle.rt_system.specs.Lines.{Say}
-use Rattle.rt_system.specs.Numbers.{IsDigit, digits_value, IsPlainNumber}
-use Rattle.rt_system.specs.Fields.{IsNamed, IsPriority}
+use Rattle.rt_system.specs.Numbers.{IsPlainNumber}
+use Rattle.rt_system.specs.Fields.{IsNamed}
 use Rattle.rt_system.specs.SystemRanges.{is_library, AreDifferent, IsWithinLimits, HasFile, HasTaskRanges, HasSystemRanges}
-use Rattle.rt_system.specs.Systems.{TaskWords, Line, Blank, Module, Object, Library, Task, IsTaskLine, IsSystemLine, entries_of, tasks_of, tasks_from, AreParts}
+use Rattle.rt_system.specs.Systems.{TaskWords, Line, Blank, Module, Object, Library, Task, IsSystemLine, entries_of, tasks_of, tasks_from, AreParts}
 use Rattle.rt_system.specs.ReadingSystems.{has_task, has_room, with_line, HasNames}
 use Rattle.rt_system.specs.declared.parts.Entry.{Entry}
 use Rattle.rt_system.specs.declared.parts.Entry.TheVariants as entry
 use Rattle.rt_system.specs.declared.parts.Task as parts
 use Rattle.rt_system.specs.declared.parts.SystemParts.{SystemParts}
-use Rattle.rt_system.proofs.Tests.{and_parts, and_both, true_false, not_true}
-use Rattle.rt_system.proofs.Words.{same_means, same_is, other_word}
+use Rattle.rt_system.proofs.Tests.{and_parts, and_both, true_false}
+use Rattle.rt_system.proofs.Words.{same_is, other_word}
 
 -- ---- lists
 

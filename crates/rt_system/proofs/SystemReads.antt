@@ -6,12 +6,11 @@ use Rattle.std.proofs.lemmas.List.{length-append, append-nil, flat_map_more}
 use Rattle.rt_system.specs.Lines.{lines, Say, IsFirstBad}
 use Rattle.rt_system.specs.Reading.{first_line, after_line}
 use Rattle.rt_system.specs.SystemRanges.{IsWithinLimits}
-use Rattle.rt_system.specs.Systems.{Line, Blank, Module, Object, Library, Task, IsSystemLine, entries_of, tasks_of, tasks_from, IsTaken, AreParts, IsSystem, AreGood, IsObjectAt, IsObjectLine, BreaksRule, LacksTask, IsBadSystemLine, RefusesSystem}
+use Rattle.rt_system.specs.Systems.{Line, Blank, Module, Object, Library, Task, IsSystemLine, entries_of, tasks_of, tasks_from, IsTaken, AreParts, IsSystem, AreGood, IsObjectLine, BreaksRule, LacksTask, IsBadSystemLine, RefusesSystem}
 use Rattle.rt_system.specs.ReadingSystems.{system_line, is_taken, has_room, with_line, Adds, IsBad, Refuses}
 use Rattle.rt_system.specs.Laws as laws
 use Rattle.rt_system.specs.Laws.{Reading, Reads}
 use Rattle.rt_system.specs.declared.parts.Entry.{Entry}
-use Rattle.rt_system.specs.declared.parts.Entry.TheVariants as entry
 use Rattle.rt_system.specs.declared.parts.Task as parts
 use Rattle.rt_system.specs.declared.parts.SystemParts.{SystemParts}
 use Rattle.rt_system.specs.declared.fault.LineFault.{LineFault}
@@ -157,7 +156,7 @@ starts objects bytes s e k = subst (λ (t : SystemParts). IsRead objects bytes b
 one_longer : (n : ℕ) (a b : List (List ℕ)) (l : List ℕ) → a ≡ b ++ l ∷ [] → length b ≡ n → length a ≡ n + 1
 one_longer n a b l e k = omega (arith, ap length e, length-append b (l ∷ []))
 
-next : (objects : Bool) (bytes rest : List ℕ) (n : ℕ) (s more : SystemParts) → IsRead objects bytes rest n s → 1 ≤ length rest → Adds objects s (first_line rest) (n + 1) more → IsRead objects bytes (after_line rest) (n + 1) more
+pub next : (objects : Bool) (bytes rest : List ℕ) (n : ℕ) (s more : SystemParts) → IsRead objects bytes rest n s → 1 ≤ length rest → Adds objects s (first_line rest) (n + 1) more → IsRead objects bytes (after_line rest) (n + 1) more
 next objects bytes rest n s more r some a =
     let t = takes_next n (lines bytes) (first_line rest) (lines (after_line rest)) (r.left ∙ first_of_lines rest some) in
     let limits = subst IsWithinLimits a.added a.limits in
@@ -207,7 +206,7 @@ no_more objects ls s l n h number bad g =
 same_first : (a b : List ℕ) (xs bs ls : List (List ℕ)) → ls ≡ a ∷ xs → ls ≡ b ∷ bs → a ≡ b
 same_first a b xs bs ls e k = cc
 
-finds_bad : (objects : Bool) (bytes rest : List ℕ) (n : ℕ) (s : SystemParts) → IsRead objects bytes rest n s → 1 ≤ length rest → IsBad objects s (first_line rest) (n + 1) → BreaksRule objects bytes (n + 1)
+pub finds_bad : (objects : Bool) (bytes rest : List ℕ) (n : ℕ) (s : SystemParts) → IsRead objects bytes rest n s → 1 ≤ length rest → IsBad objects s (first_line rest) (n + 1) → BreaksRule objects bytes (n + 1)
 finds_bad objects bytes rest n s r some bad =
     let left = r.left ∙ first_of_lines rest some in
     let t = takes_next n (lines bytes) (first_line rest) (lines (after_line rest)) left in
@@ -226,7 +225,7 @@ finds_bad objects bytes rest n s r some bad =
           true_false objects (bad (Object o.object.file) (system_line_is (first_line rest) (Object o.object.file) object)).0 o.refused;
     }
 
-finds_object : (objects : Bool) (bytes rest file : List ℕ) (n : ℕ) (s : SystemParts) → IsRead objects bytes rest n s → 1 ≤ length rest → objects ≡ false → system_line (first_line rest) ≡ Some (Object file) → IsObjectLine objects bytes (n + 1)
+pub finds_object : (objects : Bool) (bytes rest file : List ℕ) (n : ℕ) (s : SystemParts) → IsRead objects bytes rest n s → 1 ≤ length rest → objects ≡ false → system_line (first_line rest) ≡ Some (Object file) → IsObjectLine objects bytes (n + 1)
 finds_object objects bytes rest file n s r some refused is =
     let back : n + 1 - 1 ≡ n = omega arith in
     record {

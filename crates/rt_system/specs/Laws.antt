@@ -16,3 +16,6 @@ Reads objects bytes (Object n) = IsObjectLine objects bytes n
 
 abbrev pub HaveOneReading : Type 0
 HaveOneReading = (objects : Bool) (bytes : List ℕ) (r q : Reading) → Reads objects bytes r → Reads objects bytes q → r ≡ q
+
+abbrev pub HaveSomeReading : Type 0
+HaveSomeReading = (objects : Bool) (bytes : List ℕ) → (r : Reading) × Reads objects bytes r

@@ -1,13 +1,13 @@
 -- How the lines of a system text are read.
-use Rattle.std.specs.Prelude.{◌≡◌, ℕ, ◌+◌, ◌≤◌, Bool, true, false, ◌&&◌, ◌||◌, ◌==◌, nat_le, nat_lt, if◌then◌else◌, not, List, [], ◌∷◌, ◌++◌, length, map, codes, Option, Some, None, is_some}
-use Rattle.std.specs.List.{AllByRecursion, list_all, list_any}
+use Rattle.std.specs.Prelude.{◌≡◌, ℕ, Bool, true, false, ◌&&◌, ◌==◌, nat_le, nat_lt, if◌then◌else◌, not, List, [], ◌∷◌, ◌++◌, length, map, codes, Option, Some, None, is_some}
+use Rattle.std.specs.List.{list_all, list_any}
 use Rattle.std.specs.Str.{bytes_eq}
 use Rattle.rt_words.specs.Named.{IsNameLength}
 use Rattle.rt_pieces.specs.Bytes.{upper, is_letter, is_letter_or_digit}
 use Rattle.rt_pieces.specs.Pieces.{word_of}
 use Rattle.rt_system.specs.Reading.{is_blank, run, plain_number}
 use Rattle.rt_system.specs.SystemRanges.{is_library, IsWithinLimits}
-use Rattle.rt_system.specs.Systems.{TaskWords, Line, Blank, Module, Object, Library, Task, entries_of, tasks_of, IsTaken}
+use Rattle.rt_system.specs.Systems.{TaskWords, Line, Blank, Module, Object, Library, Task, entries_of, tasks_of}
 use Rattle.rt_system.specs.declared.parts.SystemParts.{SystemParts}
 use Rattle.rt_system.specs.declared.parts.Task as declared
 use Rattle.rt_system.specs.declared.line.SystemLine.{SystemLine}

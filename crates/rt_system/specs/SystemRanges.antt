@@ -1,5 +1,5 @@
 -- The ranges that a system keeps.
-use Rattle.std.specs.Prelude.{◌≡◌, ◌≢◌, ℕ, ◌≤◌, Bool, true, false, List, [], ◌∷◌, length, map, count_by}
+use Rattle.std.specs.Prelude.{◌≢◌, ℕ, ◌≤◌, Bool, true, false, List, [], ◌∷◌, length, map, count_by}
 use Rattle.std.specs.List.{AllByRecursion}
 use Rattle.rt_system.specs.Fields.{IsFile, IsNamed}
 use Rattle.rt_system.specs.declared.parts.Entry.{Entry}

@@ -1,8 +1,9 @@
 //! The laws of the texts. Each is a function that does nothing, whose contract is the law.
 
-ghost use Rattle.rt_system.specs.Laws.{HaveOneReading};
+ghost use Rattle.rt_system.specs.Laws.{HaveOneReading, HaveSomeReading};
 
-/// A system text has one reading: one system, or one line where it is refused.
+/// A text has just one reading as a system text: a system, or a line where it is refused.
 pub fn texts_have_one_reading()
-    ensures { HaveOneReading }
+    ensures one { HaveOneReading }
+    ensures some { HaveSomeReading }
 {}

@@ -1,8 +1,8 @@
 //! One line of the table.
 
-use crate::text::repeated;
-use crate::told::{tell_answer, tell_fault};
-use rt_system::read_ticks;
+use crate::text::written;
+use crate::told::{tell_fault, tell_library, tell_system, tell_ticks};
+use rt_system::{read_system, read_ticks};
 use rt_words::{Memory, Text};
 use std::alloc::Global;
 
@@ -20,8 +20,10 @@ pub fn describe(alloc: Global, line: &str, out: &mut Text) -> Result<(), Memory>
     out.push_all(b"=")?;
     let (kind, rest) = case.split_once(' ').unwrap_or((case, ""));
     match kind {
-        "ticks" => describe_ticks(alloc, 1, rest, out)?,
-        "many" => describe_many(alloc, rest, out)?,
+        "ticks" => describe_ticks(alloc, rest, out)?,
+        "go" => describe_system(alloc, rest, false, out)?,
+        "link" => describe_system(alloc, rest, true, out)?,
+        "library" => tell_library(out)?,
         _ => out.push_all(b" no case begins so")?,
     }
     out.push(b'\n')
@@ -34,21 +36,29 @@ fn before_comment(line: &str) -> &str {
     }
 }
 
-fn describe_many(alloc: Global, case: &str, out: &mut Text) -> Result<(), Memory> {
-    let (digits, text) = case.split_once(' ').unwrap_or((case, ""));
-    match digits.parse::<u32>() {
-        Ok(times) => describe_ticks(alloc, times, text, out),
-        Err(_) => out.push_all(b" no number"),
-    }
-}
-
-fn describe_ticks(alloc: Global, times: u32, text: &str, out: &mut Text) -> Result<(), Memory> {
-    let bytes = repeated(alloc, times, text)?;
+fn describe_ticks(alloc: Global, text: &str, out: &mut Text) -> Result<(), Memory> {
+    let bytes = written(alloc, text)?;
     if bytes.len() > MOST_BYTES {
         return out.push_all(b" too long");
     }
     match read_ticks(alloc, bytes.as_slice()) {
-        Ok(ticks) => tell_answer(ticks.gaps(), out),
+        Ok(ticks) => tell_ticks(ticks.gaps(), out),
+        Err(fault) => tell_fault(fault, out),
+    }
+}
+
+fn describe_system(
+    alloc: Global,
+    text: &str,
+    objects: bool,
+    out: &mut Text,
+) -> Result<(), Memory> {
+    let bytes = written(alloc, text)?;
+    if bytes.len() > MOST_BYTES {
+        return out.push_all(b" too long");
+    }
+    match read_system(alloc, bytes.as_slice(), objects) {
+        Ok(system) => tell_system(&system, out),
         Err(fault) => tell_fault(fault, out),
     }
 }

@@ -1,10 +1,14 @@
-//! Cases of tick texts, as lines of standard input.
+//! Cases of system texts, tick texts and the library's text, as lines of standard input.
 //!
 //! Each line is copied, and below a case stands its answer, which begins with `= `. What follows `# ` is no part of a case.
-//! In a text `\n` is LF, `\r` is CR, `\t` is a tab, `\s` is a space, and `\e` is nothing.
+//! In a text `\n` is LF, `\r` is CR, `\t` is a tab, `\s` is a space, `\d` is byte 127, `\0` is byte 0, and `\e` is nothing.
+//! `{32 T\#\n}` stands for the text in it so many times, where `\#` is the number of the turn, from 1.
 //!
 //! - `ticks 97*200`: the ticks of this text, those of one gap in a row as `gap*count`; or the line where it is refused.
-//! - `many 200 97\n`: so for a text that is this one so many times.
+//! - `go LIBRARY\nTASK T R S 10`: the system of this text, where objects aren't taken: its entries, and its tasks with
+//!   their lines; or the line where it is refused.
+//! - `link OBJECT T.OBJ\nTASK T R S 10`: so where objects are taken.
+//! - `library`: the number of bytes of the library's text, and the text.
 #![tactic(auto)]
 
 mod case;

@@ -1,5 +1,9 @@
 use Rattle.rt_system.proofs.SystemReads.{one_reading}
+use Rattle.rt_system.proofs.SomeReading.{some_reading}
 use Rattle.rt_system.proofs.laws.texts_have_one_reading.Goals as goal
 
-pub returns : goal.returns
-returns c = one_reading
+pub returns-clause-one : goal.returns-clause-one
+returns-clause-one c = one_reading
+
+pub returns-clause-some : goal.returns-clause-some
+returns-clause-some c = some_reading
