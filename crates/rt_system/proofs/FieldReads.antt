@@ -170,18 +170,21 @@ some_test n h = grind (arith, nat_tests)
 some_passes : (n : ℕ) → 1 ≤ n → not (eqb n 0) ≡ true
 some_passes n h = grind (arith, nat_tests)
 
+pub is_file_means : (t : List ℕ) → is_file t ≡ true → IsFile t
+is_file_means t h =
+    let k = and_parts (not (eqb (length t) 0)) (list_all is_file_byte t) h in
+    record { some = some_test (length t) k.0; bytes = all_of is_file_byte IsFileByte file_byte_means t (list_each is_file_byte t k.1) }
+
+pub is_file_is : (t : List ℕ) → IsFile t → is_file t ≡ true
+is_file_is t h = and_both (not (eqb (length t) 0)) (list_all is_file_byte t) (some_passes (length t) h.some) (each_list is_file_byte t (each_of is_file_byte IsFileByte file_byte_is t h.bytes))
+
 pub file_means : (t it : List ℕ) → file t ≡ Some it → IsFile t × (t ≡ it)
 unfolding file
-file_means t it e =
-    let h = passes (is_file t) t it e in
-    let k = and_parts (not (eqb (length t) 0)) (list_all is_file_byte t) h.0 in
-    (record { some = some_test (length t) k.0; bytes = all_of is_file_byte IsFileByte file_byte_means t (list_each is_file_byte t k.1) }, h.1)
+file_means t it e = let h = passes (is_file t) t it e in (is_file_means t h.0, h.1)
 
 pub file_is : (t : List ℕ) → IsFile t → file t ≡ Some t
 unfolding file
-file_is t h =
-    let bytes = each_list is_file_byte t (each_of is_file_byte IsFileByte file_byte_is t h.bytes) in
-    ap (λ (b : Bool). cond b (Some t) None) (and_both (not (eqb (length t) 0)) (list_all is_file_byte t) (some_passes (length t) h.some) bytes)
+file_is t h = ap (λ (b : Bool). cond b (Some t) None) (is_file_is t h)
 
 none_means : (o : Option Word) → not (is_some o) ≡ true → o ≡ None
 none_means None h = refl

@@ -19,7 +19,7 @@ pub record Found {A B : Type 0} (o : Option A) (f : A → Option B) (b : B) : Ty
   pub first : o ≡ Some value
   pub second : f value ≡ Some b
 
-found : {A B : Type 0} (o : Option A) (f : A → Option B) (b : B) → and_then o f ≡ Some b → Found o f b
+pub found : {A B : Type 0} (o : Option A) (f : A → Option B) (b : B) → and_then o f ≡ Some b → Found o f b
 found None f b e = none_some e
 found (Some a) f b e = record { value = a; first = refl; second = e }
 

@@ -16,8 +16,10 @@ mod system;
 mod ticks;
 
 pub use fault::LineFault;
+pub use fields::is_file;
 pub use laws::texts_have_one_reading;
 pub use library_text::library;
+pub use numbers::number;
 pub use parts::{Entry, SystemParts, Task};
 pub use system::{System, read_system};
 pub use ticks::{Ticks, read_ticks};
