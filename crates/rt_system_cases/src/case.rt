@@ -2,6 +2,7 @@
 
 use crate::text::written;
 use crate::told::{tell_fault, tell_library, tell_system, tell_ticks};
+use crate::words::describe_words;
 use rt_system::{read_system, read_ticks};
 use rt_words::{Memory, Text};
 use std::alloc::Global;
@@ -24,6 +25,7 @@ pub fn describe(alloc: Global, line: &str, out: &mut Text) -> Result<(), Memory>
         "go" => describe_system(alloc, rest, false, out)?,
         "link" => describe_system(alloc, rest, true, out)?,
         "library" => tell_library(out)?,
+        "words" => describe_words(alloc, rest, out)?,
         _ => out.push_all(b" no case begins so")?,
     }
     out.push(b'\n')
@@ -47,12 +49,7 @@ fn describe_ticks(alloc: Global, text: &str, out: &mut Text) -> Result<(), Memor
     }
 }
 
-fn describe_system(
-    alloc: Global,
-    text: &str,
-    objects: bool,
-    out: &mut Text,
-) -> Result<(), Memory> {
+fn describe_system(alloc: Global, text: &str, objects: bool, out: &mut Text) -> Result<(), Memory> {
     let bytes = written(alloc, text)?;
     if bytes.len() > MOST_BYTES {
         return out.push_all(b" too long");

@@ -1,4 +1,4 @@
-//! Cases of system texts, tick texts and the library's text, as lines of standard input.
+//! Cases of system texts, tick texts, the library's text and the words of commands, as lines of standard input.
 //!
 //! Each line is copied, and below a case stands its answer, which begins with `= `. What follows `# ` is no part of a case.
 //! In a text `\n` is LF, `\r` is CR, `\t` is a tab, `\s` is a space, `\d` is byte 127, `\0` is byte 0, and `\e` is nothing.
@@ -9,11 +9,13 @@
 //!   their lines; or the line where it is refused.
 //! - `link OBJECT T.OBJ\nTASK T R S 10`: so where objects are taken.
 //! - `library`: the number of bytes of the library's text, and the text.
+//! - `words show A.OBJ`: the command of these words, which stand between spaces, with each file between brackets.
 #![tactic(auto)]
 
 mod case;
 mod text;
 mod told;
+mod words;
 
 use case::describe;
 use rt_words::{Memory, Text};

@@ -51,7 +51,7 @@ pub fn tell_fault(fault: LineFault, out: &mut Text) -> Result<(), Memory> {
 }
 
 /// Appends a space and a number in decimal digits.
-fn tell_number(number: u64, out: &mut Text) -> Result<(), Memory> {
+pub fn tell_number(number: u64, out: &mut Text) -> Result<(), Memory> {
     let mut buffer = Buffer::new();
     out.push(b' ')?;
     out.push_all(buffer.format(number).as_bytes())
