@@ -4,7 +4,7 @@ use crate::bodies::{body, sizes, strings, tree};
 use crate::case::{Case, text_with};
 use crate::expand::expand;
 use crate::frames::frame;
-use crate::grafts::{bound, cut, graft_brick, graft_line};
+use crate::grafts::{bound, cut, graft_brick, graft_line, graft_made};
 use crate::modules::{checked, typed};
 use crate::pieces::{counted, items_of, piece};
 use crate::runs::{run, run_whole, trace};
@@ -64,6 +64,7 @@ fn ask(alloc: Global, case: &Case, word: &str, rest: &str, out: &mut String) -> 
         "FRAME" => frame(alloc, case, rest, out),
         "BOUND" => bound(alloc, case, rest, out),
         "BRICK" | "LINE" => graft(alloc, case, word, rest, out),
+        "MADE" => graft_made(alloc, case, rest, out),
         _ => {
             let text = text_with(alloc, case.frame(), rest)?;
             look(alloc, word, text.as_str(), out)

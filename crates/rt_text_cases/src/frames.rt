@@ -35,12 +35,23 @@ fn frame_named(
     out: &mut String,
 ) -> Result<(), Stop> {
     match brick_named(module, name.as_bytes()) {
-        Some(brick) if module.is_procedure(brick) => {
-            let frame = frame_of(alloc, module, brick)?;
-            show_frame(module, &frame, out)
-        }
-        _ => Err(Stop::Line),
+        Some(brick) => frame_numbered(alloc, module, brick, out),
+        None => Err(Stop::Line),
     }
+}
+
+/// Writes the frame of the procedure of this number.
+pub fn frame_numbered(
+    alloc: Global,
+    module: &TypedModule,
+    brick: u16,
+    out: &mut String,
+) -> Result<(), Stop> {
+    if !module.is_procedure(brick) {
+        return Err(Stop::Line);
+    }
+    let frame = frame_of(alloc, module, brick)?;
+    show_frame(module, &frame, out)
 }
 
 fn show_frame(module: &TypedModule, frame: &Frame, out: &mut String) -> Result<(), Stop> {

@@ -2,11 +2,14 @@
 
 use crate::case::{Case, text_with};
 use crate::expand::number;
+use crate::frames::frame_numbered;
+use crate::made::made;
+use crate::runs::trace_module;
 use crate::stop::Stop;
 use rt_bricks::{Module, parse_module};
 use rt_check::{read_module, typed_module};
 use rt_items::{Item, items};
-use rt_tree::{Body, Brick, BrickSort, Labelled, ModuleParts, ProcBody, TypedModule};
+use rt_tree::{Brick, BrickSort, Labelled, ModuleParts, ProcBody, TypedModule};
 use rt_words::List;
 use std::alloc::Global;
 use std::fmt::Write;
@@ -67,9 +70,42 @@ fn with_brick(alloc: Global, first: &str, brick: Brick, out: &mut String) -> Res
 /// Whether the first text fits with the last statement of another text in place of its last one.
 pub fn graft_line(alloc: Global, case: &Case, text: &str, out: &mut String) -> Result<(), Stop> {
     let line = line_of(alloc, text)?;
-    let mut brick = last_brick(alloc, case.frame())?;
-    end_in(&mut brick, line)?;
-    with_brick(alloc, case.frame(), brick, out)
+    let mut parts = parts_of(alloc, case.frame())?;
+    end_in(&mut parts, line);
+    tell_fit(parts, out)
+}
+
+/// Whether the first text fits with a statement that no text has in place of its last one; and where it does, the frame of its
+/// last brick, and what its tasks do.
+pub fn graft_made(alloc: Global, case: &Case, written: &str, out: &mut String) -> Result<(), Stop> {
+    let line = made(alloc, written)?;
+    let mut parts = parts_of(alloc, case.frame())?;
+    end_in(&mut parts, line);
+    match TypedModule::new(parts) {
+        Some(module) => show_made(alloc, case, module, out),
+        None => Ok(out.push_str(" unfit")?),
+    }
+}
+
+fn show_made(
+    alloc: Global,
+    case: &Case,
+    module: TypedModule,
+    out: &mut String,
+) -> Result<(), Stop> {
+    show_last_frame(alloc, &module, out)?;
+    if case.tasks.as_slice().is_empty() {
+        return Ok(());
+    }
+    trace_module(alloc, case, module, out)
+}
+
+fn show_last_frame(alloc: Global, module: &TypedModule, out: &mut String) -> Result<(), Stop> {
+    out.push_str(" fits")?;
+    match u16::try_from(module.bricks().len().saturating_sub(1)) {
+        Ok(last) => frame_numbered(alloc, module, last, out),
+        Err(_) => Err(Stop::Line),
+    }
 }
 
 fn line_of(alloc: Global, text: &str) -> Result<Labelled, Stop> {
@@ -90,31 +126,33 @@ fn last_line(brick: &mut Brick) -> Option<Labelled> {
     }
 }
 
-fn end_in(brick: &mut Brick, line: Labelled) -> Result<(), Stop> {
-    end_sort(&mut brick.sort, line)
+// Puts a statement in the place of the last one of the last brick, where that is a procedure.
+fn end_in(parts: &mut ModuleParts, line: Labelled) {
+    let mut bricks = parts.bricks.take().into_vec();
+    if let Some(brick) = bricks.last_mut() {
+        end_sort(&mut brick.sort, line);
+    }
+    parts.bricks = List::from_vec(bricks);
 }
 
-fn end_sort(sort: &mut BrickSort, line: Labelled) -> Result<(), Stop> {
+fn end_sort(sort: &mut BrickSort, line: Labelled) {
     match sort {
         BrickSort::Proc(_, body) => end_any(body, line),
-        _ => Err(Stop::Line),
+        _ => {}
     }
 }
 
-fn end_any(body: &mut Option<ProcBody>, line: Labelled) -> Result<(), Stop> {
-    match body {
-        Some(procedure) => end_body(&mut procedure.body, line),
-        None => Err(Stop::Line),
+fn end_any(body: &mut Option<ProcBody>, line: Labelled) {
+    if let Some(procedure) = body {
+        put_last(&mut procedure.body.statements, line);
     }
 }
 
-fn end_body(body: &mut Body, line: Labelled) -> Result<(), Stop> {
-    put_last(&mut body.statements, line)
-}
-
-fn put_last(statements: &mut List<Labelled>, line: Labelled) -> Result<(), Stop> {
-    let _ = statements.pop();
-    Ok(statements.push(line)?)
+fn put_last(statements: &mut List<Labelled>, line: Labelled) {
+    let count = statements.len();
+    if count > 0 {
+        statements.set(count - 1, line);
+    }
 }
 
 /// Whether a text fits without the last of its records.

@@ -12,6 +12,7 @@ mod expressions;
 mod faults;
 mod frames;
 mod grafts;
+mod made;
 mod modules;
 mod pieces;
 mod runs;

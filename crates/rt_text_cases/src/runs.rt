@@ -6,7 +6,7 @@ ghost use Rattle.rt_meaning.specs.Source as source;
 use crate::case::Case;
 use crate::expand::{number, write_bytes};
 use crate::stop::Stop;
-use crate::systems::{System, may_start, system_of};
+use crate::systems::{System, may_start, system_of, system_with};
 use rt_meaning::SourceState;
 use rt_rules::State;
 use rt_runs::{Reached, run_system, source_run};
@@ -20,7 +20,7 @@ pub fn run(alloc: Global, case: &Case, rest: &str, out: &mut String) -> Result<(
     let system = system_of(alloc, case, "", out)?;
     let numbers = numbers(alloc, rest)?;
     match numbers.as_slice() {
-        [steps, placements @ ..] if *steps <= 1000 && placements.len() <= 1000 => {
+        [steps, placements @ ..] if *steps <= 100000 && placements.len() <= 200000 => {
             run_from(alloc, &system, *steps, placements, case, out)
         }
         _ => Err(Stop::Line),
@@ -35,8 +35,8 @@ fn run_from(
     case: &Case,
     out: &mut String,
 ) -> Result<(), Stop>
-    requires few { length placements.now ≤ 1000 }
-    requires steps { steps ≤ 1000 }
+    requires few { length placements.now ≤ 200000 }
+    requires steps { steps ≤ 100000 }
 {
     if !may_start(system.modules.as_slice(), system.tasks.as_slice()) {
         return Err(Stop::Line);
@@ -54,7 +54,7 @@ pub fn run_whole(alloc: Global, case: &Case, rest: &str, out: &mut String) -> Re
     let system = system_of(alloc, case, "", out)?;
     let numbers = numbers(alloc, rest)?;
     match numbers.as_slice() {
-        [steps, placements @ ..] if *steps <= 1000 && placements.len() <= 1000 => {
+        [steps, placements @ ..] if *steps <= 100000 && placements.len() <= 200000 => {
             run_at_once(alloc, &system, *steps, placements, case, out)
         }
         _ => Err(Stop::Line),
@@ -69,8 +69,8 @@ fn run_at_once(
     case: &Case,
     out: &mut String,
 ) -> Result<(), Stop>
-    requires few { length placements.now ≤ 1000 }
-    requires steps { steps ≤ 1000 }
+    requires few { length placements.now ≤ 200000 }
+    requires steps { steps ≤ 100000 }
 {
     let (modules, tasks) = (system.modules.as_slice(), system.tasks.as_slice());
     if !may_start(modules, tasks) {
@@ -122,6 +122,21 @@ fn show_ends(ends: &[State], out: &mut String) -> Result<(), Stop> {
 /// Writes what a system does without ticks and input until no task is ready: its steps, its output and the ends of its tasks.
 pub fn trace(alloc: Global, case: &Case, piece: &str, out: &mut String) -> Result<(), Stop> {
     let system = system_of(alloc, case, piece, out)?;
+    trace_system(alloc, &system, out)
+}
+
+/// The same of a system of one module, with the tasks of the case.
+pub fn trace_module(
+    alloc: Global,
+    case: &Case,
+    module: TypedModule,
+    out: &mut String,
+) -> Result<(), Stop> {
+    let system = system_with(alloc, case, module)?;
+    trace_system(alloc, &system, out)
+}
+
+fn trace_system(alloc: Global, system: &System, out: &mut String) -> Result<(), Stop> {
     if !may_start(system.modules.as_slice(), system.tasks.as_slice()) {
         return Err(Stop::Line);
     }

@@ -40,6 +40,18 @@ pub fn system_of(
     Ok(system)
 }
 
+/// The system of this module alone, with the tasks of a case.
+pub fn system_with(alloc: Global, case: &Case, module: TypedModule) -> Result<System, Stop> {
+    let mut modules = List::new(alloc, 0)?;
+    modules.push(module)?;
+    let tasks = List::new(alloc, 0)?;
+    let mut system = System { modules, tasks };
+    for line in case.tasks.as_slice() {
+        add_task(&mut system, line)?;
+    }
+    Ok(system)
+}
+
 fn add_module(
     alloc: Global,
     system: &mut System,
