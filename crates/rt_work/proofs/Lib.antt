@@ -2,3 +2,4 @@ mod Calls
 mod Changes
 mod Firsts
 mod Taken
+mod Sizes

@@ -1,5 +1,5 @@
 -- The trees of the code, and what it holds of a task, as plain trees and plain data.
-use Rattle.std.specs.Prelude.{◌≡◌, ℕ, ◌+◌, ◌<◌, Bool, true, false, List, [], ◌∷◌, slice_get, Option, Some, None}
+use Rattle.std.specs.Prelude.{◌≡◌, ℕ, ◌+◌, ◌<◌, List, [], ◌∷◌, slice_get, Option, Some, None}
 use Rattle.rt_tree_nodes.specs.declared.store.Proc.{Proc}
 use Rattle.rt_tree_nodes.specs.declared.store.Origin.TheVariants.{Brick, Text}
 use Rattle.rt_tree_nodes.specs.declared.store.Location.{Location}

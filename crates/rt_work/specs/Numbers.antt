@@ -1,5 +1,5 @@
 -- What the operators, relations and loops of the language give, on words of 16 bits. Words stand for signed numbers.
-use Rattle.std.specs.Prelude.{ℕ, zero, suc, ◌+◌, ◌-◌, ◌/◌, ◌%◌, Bool, true, false, not, ◌==◌, if◌then◌else◌, bit_and, bit_or, bit_xor, ℤ, pos, ◌-ℤ◌, int_lt, unsigned_abs}
+use Rattle.std.specs.Prelude.{ℕ, suc, ◌-◌, ◌/◌, ◌%◌, Bool, false, not, ◌==◌, if◌then◌else◌, bit_and, bit_or, bit_xor, ◌-ℤ◌, int_lt, unsigned_abs}
 use Rattle.rt_words.specs.Word.{wrap_add, wrap_sub, is_negative, signed_of}
 use Rattle.rt_words.specs.Operators.{wrap_mul, frac_mul, sdiv, shift}
 use Rattle.rt_words.specs.declared.kinds.Shift.TheVariants as by

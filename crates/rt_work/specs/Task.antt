@@ -2,7 +2,7 @@
 --
 -- The invisible work is a function by recursion on the trees: `first` says which visible step comes first in a value, with
 -- what is still to be done after it, or goes on where there is none. So each line can be read as an order of steps.
-use Rattle.std.specs.Prelude.{ℕ, zero, suc, ◌+◌, ◌-◌, ◌%◌, Bool, true, false, ◌&&◌, nat_le, ◌==◌, not, if◌then◌else◌, List, [], ◌∷◌, ◌++◌, Option, Some, None, slice_get, slice_set}
+use Rattle.std.specs.Prelude.{ℕ, zero, suc, ◌+◌, ◌-◌, ◌%◌, Bool, true, false, ◌&&◌, nat_le, ◌==◌, not, if◌then◌else◌, List, [], ◌∷◌, Option, Some, None, slice_get, slice_set}
 use Rattle.rt_words.specs.Word.{wrap_add}
 use Rattle.rt_tree_nodes.specs.declared.store.Proc.{Proc}
 use Rattle.rt_tree_nodes.specs.declared.store.Origin.{Origin}

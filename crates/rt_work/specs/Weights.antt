@@ -1,7 +1,7 @@
 -- How much invisible work is left at most: each thing to be done weighs more than what it leaves to be done. The body of a
 -- loop weighs where a turn of it begins, and nothing at its end, since a further turn is a jump.
 use Rattle.std.specs.Prelude.{ℕ, ◌+◌, List, [], ◌∷◌}
-use Rattle.rt_tree_nodes.specs.Tree.{Term, Num, Str, Name, Own, Get, Ref, RefRow, Count, CountRow, One, Two, Over, Apply, ApplyBy, Path, ItemAt, Svc, FieldOf, Elem, ElemRow, Past, Terms, NoTerm, MoreTerms, Cond, Is, Both, Either, Stmt, Keep, Clear, Put, Run, Toss, Goto, GiveBack, Back, Switch, Inner, If, For, To, While, Recover, Seq, Done, Then, Mark}
+use Rattle.rt_tree_nodes.specs.Tree.{Term, Get, Ref, RefRow, Count, CountRow, One, Two, Over, Apply, ApplyBy, Path, FieldOf, Elem, ElemRow, Past, Terms, NoTerm, MoreTerms, Cond, Is, Both, Either, Stmt, Keep, Put, Run, Toss, GiveBack, Switch, Inner, If, For, To, While, Seq, Done, Then, Mark}
 use Rattle.rt_work.specs.Task.{Item, Do, Eval, At, Args, Try, AndThen, OrElse, Choose, Decide, CountFor, CountTo}
 
 abbrev mutual

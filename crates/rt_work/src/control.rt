@@ -306,19 +306,20 @@ pub fn turn_to(scene: &mut Scene, local: u16, q: Rc<SeqNode>) -> Done
 
 // ---- labels, ends, services
 
+// The label at a place, from 0. A SWITCH may have as many as a module has items, so it is no recursion.
 fn nth_label(labels: &LabelsNode, k: u16) -> Option<u16>
     ensures { result ≡ slice_get (n.labels labels.now) k }
 {
-    match labels {
-        LabelsNode::NoLabel => None,
-        LabelsNode::MoreLabels(l, rest) => {
-            if k == 0 {
-                Some(*l)
-            } else {
-                nth_label(rest, k - 1)
-            }
+    let mut rest = labels;
+    let mut before = k;
+    while let LabelsNode::MoreLabels(label, behind) = rest {
+        if before == 0 {
+            return Some(*label);
         }
+        before -= 1;
+        rest = behind;
     }
+    None
 }
 
 pub fn to_label(scene: &mut Scene, labels: &LabelsNode) -> Done

@@ -84,7 +84,8 @@ impl Body {
     }
 }
 
-/// Adds the labels of a sequence behind which this is to be done.
+/// Adds the labels of a sequence behind which this is to be done. It recurses as deep as statements are nested, and not along
+/// the sequence.
 #[cycle(label)]
 #[tactic(auto, using(crate::proofs::Firsts::or_else_twice))]
 fn add_labels(
@@ -96,19 +97,38 @@ fn add_labels(
     ensures todo { OnOk result (todo.new ≡ todo.old) }
     ensures leads { OnOk result ((label : ℕ) → lead_from leads.new label ≡ task.or_else (lead_from leads.old label) (task.from_label label (n.seq q.now) (n.items todo.old))) }
 {
-    match q {
-        SeqNode::Done => Ok(()),
-        SeqNode::Mark(label, rest) => {
-            add_label(alloc, *label, rest, todo, leads)?;
-            add_labels(alloc, rest, todo, leads)
-        }
-        SeqNode::Then(s, rest) => {
-            todo.push(Item::Do(rest.clone()?))?;
-            add_inside(alloc, s, todo, leads)?;
-            let _ = todo.pop();
-            add_labels(alloc, rest, todo, leads)
+    let mut rest = q;
+    loop {
+        match rest {
+            SeqNode::Done => return Ok(()),
+            SeqNode::Mark(label, behind) => {
+                add_label(alloc, *label, behind, todo, leads)?;
+                rest = behind;
+            }
+            SeqNode::Then(s, behind) => {
+                add_before(alloc, s, behind, todo, leads)?;
+                rest = behind;
+            }
         }
     }
+}
+
+/// Adds the labels inside a statement, behind which a sequence is to be done.
+#[cycle(label)]
+fn add_before(
+    alloc: Global,
+    s: &StmtNode,
+    behind: &Rc<SeqNode>,
+    todo: &mut Stack<Item>,
+    leads: &mut Leads,
+) -> Result<(), Memory>
+    ensures todo { OnOk result (todo.new ≡ todo.old) }
+    ensures leads { OnOk result ((label : ℕ) → lead_from leads.new label ≡ task.or_else (lead_from leads.old label) (task.from_inside label (n.stmt s.now) (task.Do (n.seq behind.now.value) ∷ n.items todo.old))) }
+{
+    todo.push(Item::Do(behind.clone()?))?;
+    add_inside(alloc, s, todo, leads)?;
+    let _ = todo.pop();
+    Ok(())
 }
 
 /// Adds the labels inside a statement.

@@ -1,4 +1,4 @@
-use Rattle.std.proofs.Common.{ℕ, length}
+use Rattle.std.proofs.Common.{length}
 use Rattle.rt_work.proofs.control.+same_path.Given as goal
 
 abbrev pub decreases-same_path : goal.decreases-same_path

@@ -1,6 +1,5 @@
 use Rattle.std.proofs.Common.{◌≡◌, take}
 use mathlib.Core.List.{reverse}
-use Rattle.rt_work.specs.Nodes.{items}
 use Rattle.rt_work.proofs.copies.copy_values.Given as goal
 
 abbrev pub invariant-loop-value : goal.invariant-loop-value
