@@ -2,9 +2,10 @@
 
 use crate::expand::{expand, number};
 use crate::stop::Stop;
+use rt_system::library;
 use rt_words::List;
 use std::alloc::Global;
-use std::mem;
+use std::{mem, str};
 
 /// A task as it is written: the number of its module, from 1, the name of its root, and its priority.
 #[derive(Drop)]
@@ -56,6 +57,14 @@ impl Case {
         } else {
             expand(&mut self.text, line)?;
             Ok(self.text.push('\n')?)
+        }
+    }
+
+    /// The library's text, as one more text.
+    pub fn library(&mut self, alloc: Global) -> Result<(), Stop> {
+        match str::from_utf8(library()) {
+            Ok(text) => Ok(self.texts.push(String::from_str(alloc, text)?)?),
+            Err(_) => Err(Stop::Line),
         }
     }
 

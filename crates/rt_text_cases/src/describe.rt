@@ -43,6 +43,7 @@ fn obey(alloc: Global, case: &mut Case, line: &str, out: &mut String) -> Result<
             case.open = true;
             Ok(())
         }
+        "LIBRARY" => case.library(alloc),
         "TASK" => case.task(alloc, rest),
         "INPUT" => case.input(alloc, rest),
         _ => {
