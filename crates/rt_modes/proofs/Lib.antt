@@ -7,8 +7,6 @@ pub mod PartsLeft
 pub mod Prefixes
 pub mod ReadAt
 pub mod Records
-pub mod Right
 pub mod Spelled
 pub mod Stack
-pub mod Turning
 pub mod Within

@@ -1,19 +1,16 @@
 -- What is read at a place of many bytes.
-use Rattle.std.proofs.Common.{◌≡◌, ℕ, suc, ◌+◌, ◌-◌, ◌≤◌, List, [], ◌∷◌, ◌++◌, length, take, drop, get_or, Ok, Err, ◌⊎◌, inl, inr, Fits, w8, refl, sym, ap, subst, ◌∙◌, arith, append_assoc}
+use Rattle.std.proofs.Common.{◌≡◌, ℕ, ◌+◌, ◌-◌, ◌≤◌, List, [], ◌++◌, length, take, drop, Ok, Err, ◌⊎◌, inl, inr, refl, sym, ap, subst, ◌∙◌, arith, append_assoc}
 use Rattle.std.proofs.lemmas.List.{length-append, length-drop, take_rest, take-append-drop, drop_at, append-nil}
 use Rattle.rt_modes.specs.declared.code.Place.TheVariants.{Alone}
 use Rattle.rt_modes.specs.declared.mode.Mode.{Mode}
-use Rattle.rt_modes.specs.Reading.{Outcome}
+use Rattle.rt_formats.specs.Reading.{Outcome}
 use Rattle.rt_modes.specs.Reading as reads
 use Rattle.rt_modes.specs.Spelling.{mode_format, spelling, MayStand, IsMode, StandsAt, RefusedAt}
 use Rattle.rt_modes.proofs.ModeReads.{right_mode}
-use Rattle.rt_modes.proofs.Right.{ok, err, read_same, same_err}
-use Rattle.rt_modes.proofs.Spelled.{AreBytes, bytes_after, fits_stands, stands_fits}
+use Rattle.rt_formats.proofs.Right.{ok, err, read_same, same_err}
+use Rattle.rt_formats.proofs.Spelled.{AreBytes, bytes_after}
+use Rattle.rt_modes.proofs.Spelled.{fits_stands, stands_fits}
 use Rattle.rt_modes.proofs.Within.{in_mode}
-
-pub fit_bytes : (l : List ℕ) → ((i : ℕ) → Fits w8 (get_or l i 0)) → AreBytes l
-fit_bytes [] h = tt
-fit_bytes (x ∷ l) h = let f = h 0 in (omega arith, fit_bytes l (λ i. h (suc i)))
 
 module _ (records : ℕ) (bytes : List ℕ) (at : ℕ) (within : at ≤ length bytes) where
   abbrev here : List ℕ

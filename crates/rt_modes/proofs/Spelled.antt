@@ -1,8 +1,8 @@
 -- What fits the format of a mode is the spelling of a mode that may stand.
-use Rattle.std.proofs.Common.{◌≡◌, ℕ, zero, suc, ◌+◌, ◌-◌, ◌*◌, ◌/◌, ◌%◌, ◌<◌, ◌≤◌, Bool, true, false, if◌then◌else◌, ◌&&◌, ltb, leb, List, [], ◌∷◌, ◌++◌, length, map, Option, Some, None, IfSome, inl, inr, refl, sym, ap, subst, ◌∙◌, arith, append_assoc}
+use Rattle.std.proofs.Common.{◌≡◌, ℕ, zero, suc, ◌-◌, ◌%◌, ◌<◌, ◌≤◌, Bool, true, false, if◌then◌else◌, ◌&&◌, ltb, leb, List, [], ◌∷◌, ◌++◌, length, map, Option, Some, None, IfSome, inl, inr, refl, sym, ap, subst, ◌∙◌, arith, append_assoc}
 use Rattle.std.specs.List.{AllByRecursion}
 use Rattle.std.specs.Option.{option_map}
-use Rattle.std.proofs.lemmas.List.{length-map, append-nil}
+use Rattle.std.proofs.lemmas.List.{length-map}
 use Rattle.std.proofs.lemmas.Bool.{ltb-true, leb-true, le-leb, lt-ltb}
 use Rattle.std.proofs.lemmas.Bool.Decides.{nat_tests}
 use Rattle.rt_modes.specs.declared.code.Code.{Code}
@@ -16,8 +16,10 @@ use Rattle.rt_modes.specs.declared.mode.Mode.TheVariants as mode
 use Rattle.rt_modes.specs.declared.mode.Mode.TheVariants.{rolls-Byte, rolls-Int, rolls-Frac, rolls-Label, rolls-Ref, rolls-RefArray, rolls-Array, rolls-Record, rolls-Proc}
 use Rattle.rt_modes.specs.FullMode.{joined}
 use Rattle.rt_modes.proofs.Modes.{out_byte, out_int, out_frac, out_label, out_record, out_ref, out_ref_array, out_array, out_proc}
-use Rattle.rt_modes.specs.Fields.{Format, word, times, or_zero}
-use Rattle.rt_modes.specs.Spelling.{MayStand, mode_format, mode_of, inside, StandsInside, OneMayStand, IsLength, behind, where_true, where_may, is_alone, is_not_passed, spelling, code_of, code_at, may_stand, result_spelling}
+use Rattle.rt_formats.specs.Format.{Format, times, or_zero}
+use Rattle.rt_formats.specs.Spelling.{spell_all}
+use Rattle.rt_formats.proofs.Spelled.{AreBytes, bytes_left, true_is, test_there, test_back, IsSpelled, spelled_times}
+use Rattle.rt_modes.specs.Spelling.{MayStand, mode_format, mode_of, inside, StandsInside, OneMayStand, IsLength, behind, where_may, is_alone, is_not_passed, spelling, code_of, code_at, may_stand, result_spelling}
 use Rattle.rt_words.specs.Bytes.{word_bytes}
 
 abbrev code_byte : Code → ℕ
@@ -108,61 +110,30 @@ spelled_few : (m : Mode) (ps : List Mode) (r : Option Mode) → out-Mode m ≡ M
     → spelling m ≡ 9 ∷ (length ps ∷ (joined (map spelling ps) ++ result_spelling (option_map spelling r)))
 spelled_few m ps r e h = let f : length ps % 256 ≡ length ps = omega arith in spelled_proc m ps r e ∙ rw f refl
 
--- ---- bytes
-
-abbrev pub AreBytes : List ℕ → Type 0
-AreBytes = AllByRecursion (λ b. b < 256)
-
-pub bytes_after : (xs ys : List ℕ) → AreBytes (xs ++ ys) → AreBytes ys
-bytes_after [] ys h = h
-bytes_after (x ∷ xs) ys h = bytes_after xs ys h.1
-
-module _ (test : ℕ → Bool) where
-  true_is : (n x : ℕ) → where_true test n ≡ Some x → (n ≡ x) × (test x ≡ true)
-  true_is n x e = by (test n) refl e
-    where
-      by : (b : Bool) → test n ≡ b → (if b then Some n else None) ≡ Some x → (n ≡ x) × (test x ≡ true)
-      by true f e = let g : n ≡ x = cc in (g, rw (sym g) f)
-      by false f e = absurd cc
-
-  word_there : (l r : List ℕ) (x : ℕ) → AreBytes l → (word (where_true test)).Fits l r x → (test x ≡ true) × (l ≡ word_bytes x ++ r)
-  word_there l r x h (low, high, e, f) =
-      let g = true_is (low + 256 * high) x f in
-      let small : low < 256 = (rw e at h).0 in
-      let one : low ≡ x % 256 = omega arith in
-      let two : high ≡ x / 256 = omega arith in
-      (g.1, e ∙ rw (one, two) refl)
-
-  word_back : (r : List ℕ) (x : ℕ) → test x ≡ true → (word (where_true test)).Fits (word_bytes x ++ r) r x
-  word_back r x e = let f : x % 256 + 256 * (x / 256) ≡ x = omega arith in (x % 256, x / 256, refl, rw (f, e) refl)
-
 -- ---- the parts of a mode, where the modes inside it are known
+
+joined_is : (ps : List Mode) → joined (map spelling ps) ≡ spell_all spelling ps
+joined_is [] = refl
+joined_is (p ∷ ps) = ap (λ rest. spelling p ++ rest) (joined_is ps)
+
+-- so many modes that stand are spelled there
+record Times (S : Mode → Type 0) (n : ℕ) (l r : List ℕ) (ps : List Mode) : Type 0 where
+  spelled : l ≡ joined (map spelling ps) ++ r
+  count : length ps ≡ n
+  stand : AllByRecursion S ps
 
 module _ (P : Format Mode) (S : Mode → Type 0) (there : (l r : List ℕ) (m : Mode) → AreBytes l → P.Fits l r m → (l ≡ spelling m ++ r) × S m)
     (back : (r : List ℕ) (m : Mode) → S m → P.Fits (spelling m ++ r) r m) where
-  record Times (n : ℕ) (found : List Mode) (l r : List ℕ) (ps : List Mode) : Type 0 where
-    more : List Mode
-    all : ps ≡ found ++ more
-    count : length more ≡ n
-    spelled : l ≡ joined (map spelling more) ++ r
-    stand : AllByRecursion S more
+  -- the parameters are spelled one behind another
+  parameters : (n : ℕ) → IsSpelled (times P n []) (spell_all spelling) (λ ps. (length ps ≡ n) × AllByRecursion S ps)
+  parameters n = spelled_times P spelling S (record { there = there; back = back }) n
 
-  times_there : (n : ℕ) (found : List Mode) (l r : List ℕ) (ps : List Mode) → AreBytes l → (times P n found).Fits l r ps → Times n found l r ps
-  times_there zero found l r ps h (e, f) = record { more = []; all = sym f ∙ sym (append-nil found); count = refl; spelled = e; stand = tt }
-  times_there (suc n) found l r ps h (m, x, fits, rest) =
-      let one = there l m x h fits in
-      let t = times_there n (found ++ x ∷ []) m r ps (bytes_after (spelling x) m (subst AreBytes one.0 h)) rest in
-      record {
-        more = x ∷ t.more;
-        all = t.all ∙ append_assoc found (x ∷ []) t.more;
-        count = ap suc t.count;
-        spelled = one.0 ∙ ap (λ rest. spelling x ++ rest) t.spelled ∙ sym (append_assoc (spelling x) (joined (map spelling t.more)) r);
-        stand = (one.1, t.stand);
-      }
+  times_there : (n : ℕ) (l r : List ℕ) (ps : List Mode) → AreBytes l → (times P n []).Fits l r ps → Times S n l r ps
+  times_there n l r ps h fits =
+      let t = (parameters n).there l r ps h fits in record { spelled = t.0 ∙ ap (λ x. x ++ r) (sym (joined_is ps)); count = t.1.0; stand = t.1.1 }
 
-  times_back : (more found : List Mode) (r : List ℕ) → AllByRecursion S more → (times P (length more) found).Fits (joined (map spelling more) ++ r) r (found ++ more)
-  times_back [] found r h = (refl, sym (append-nil found))
-  times_back (x ∷ more) found r h = (joined (map spelling more) ++ r, x, rw (append_assoc (spelling x)) (back (joined (map spelling more) ++ r) x h.0), rw (sym (append_assoc found (x ∷ []) more)) (times_back more (found ++ x ∷ []) r h.1))
+  times_back : (ps : List Mode) (r : List ℕ) → AllByRecursion S ps → (times P (length ps) []).Fits (joined (map spelling ps) ++ r) r ps
+  times_back ps r h = rw (joined_is ps) ((parameters (length ps)).back r ps (refl, h))
 
   result_there : (l r : List ℕ) (x : Option Mode) → AreBytes l → (or_zero P).Fits l r x → (l ≡ result_spelling (option_map spelling x) ++ r) × IfSome x S
   result_there l r x h (inl (e, f)) = rw (f) (e, tt)
@@ -233,13 +204,13 @@ begins_else m r rest e = by (out-Mode m) refl
 
 -- ---- the spelling of PROC, put together from its parts
 
-proc_few : (ps more : List Mode) (count : ℕ) → ps ≡ more → length more ≡ count → count ≤ 32 → length ps ≤ 32
-proc_few ps more count e f h = rw (e, f) h
+proc_few : (ps : List Mode) (count : ℕ) → length ps ≡ count → count ≤ 32 → length ps ≤ 32
+proc_few ps count e h = rw e h
 
-proc_spelled : (m : Mode) (ps more : List Mode) (x : Option Mode) (l t u v r : List ℕ) (b count : ℕ) → out-Mode m ≡ Mode-F.Proc ps x → l ≡ b ∷ t → b ≡ count → t ≡ joined (map spelling more) ++ u
-    → u ≡ result_spelling (option_map spelling x) ++ v → v ≡ r → ps ≡ more → length more ≡ count → length ps ≤ 32 → 9 ∷ l ≡ spelling m ++ r
-proc_spelled m ps more x l t u v r b count o e f g h i j k few = rw (spelled_few m ps x o few, e, f, g, h, i, j, k)
-    (sym (ap (λ rest. 9 ∷ (count ∷ rest)) (append_assoc (joined (map spelling more)) (result_spelling (option_map spelling x)) r)))
+proc_spelled : (m : Mode) (ps : List Mode) (x : Option Mode) (l t u v r : List ℕ) (b count : ℕ) → out-Mode m ≡ Mode-F.Proc ps x → l ≡ b ∷ t → b ≡ count → t ≡ joined (map spelling ps) ++ u
+    → u ≡ result_spelling (option_map spelling x) ++ v → v ≡ r → length ps ≡ count → length ps ≤ 32 → 9 ∷ l ≡ spelling m ++ r
+proc_spelled m ps x l t u v r b count o e f g h i k few = rw (spelled_few m ps x o few, e, f, g, h, i, k)
+    (sym (ap (λ rest. 9 ∷ (count ∷ rest)) (append_assoc (joined (map spelling ps)) (result_spelling (option_map spelling x)) r)))
 
 -- ---- a mode, where the modes inside it are known
 
@@ -274,22 +245,22 @@ module _ (records : ℕ) (P : Place → ℕ → Format Mode) (S : Place → ℕ 
       (rw (spelled_ref_array m x o, g.0, e) refl, rw o (b.0, b.1, g.1))
   behind_there code.Array l r m may h (t, n, word_fits, (u, x, fits, (e, f))) =
       let o = out_array m x n (sym f) in
-      let w = word_there (λ n. leb 1 n && leb n 8191) l t n h word_fits in
-      let g = there Inside 8 t u x (bytes_after (word_bytes n) t (subst AreBytes w.1 h)) fits in
+      let w = test_there (λ n. leb 1 n && leb n 8191) l t n h word_fits in
+      let g = there Inside 8 t u x (bytes_left l (word_bytes n) t w.1 h) fits in
       let b = both_true (is_alone place) (ltb 0 levels) may in
       (rw (spelled_array m x n o, w.1, g.0, e) refl, rw o (alone_is place b.0, opens b.1, length_is n w.0, g.1))
   behind_there code.Record l r m may h (t, k, word_fits, (e, f)) =
       let o = out_record m k (sym f) in
-      let w = word_there (λ k. ltb k records) l t k h word_fits in
+      let w = test_there (λ k. ltb k records) l t k h word_fits in
       (rw (spelled_record m k o, w.1, e) refl, rw o (not_passed place may, ltb-true k records w.0))
   behind_there code.Proc l r m may h (t, count, (b, e, f), (u, ps, turns, (v, x, result, (g, k)))) =
       let o = out_proc m ps x (sym k) in
       let few = true_is (λ n. leb n 32) b count f in
-      let q = times_there (P Passed 8) (S Passed 8) (there Passed 8) (back Passed 8) count [] t u ps (subst AreBytes e h).1 turns in
-      let z = result_there (P Passed 8) (S Passed 8) (there Passed 8) (back Passed 8) u v x (bytes_after (joined (map spelling q.more)) u (subst AreBytes q.spelled (subst AreBytes e h).1)) result in
-      let small = proc_few ps q.more count q.all q.count (leb-true count 32 few.1) in (
-        proc_spelled m ps q.more x l t u v r b count o e few.0 q.spelled z.0 g q.all q.count small,
-        rw o (opens may, small, subst (AllByRecursion (S Passed 8)) (sym q.all) q.stand, z.1),
+      let q = times_there (P Passed 8) (S Passed 8) (there Passed 8) (back Passed 8) count t u ps (subst AreBytes e h).1 turns in
+      let z = result_there (P Passed 8) (S Passed 8) (there Passed 8) (back Passed 8) u v x (bytes_left t (joined (map spelling ps)) u q.spelled (subst AreBytes e h).1) result in
+      let small = proc_few ps count q.count (leb-true count 32 few.1) in (
+        proc_spelled m ps x l t u v r b count o e few.0 q.spelled z.0 g q.count small,
+        rw o (opens may, small, q.stand, z.1),
       )
 
   mode_there : (l r : List ℕ) (m : Mode) → AreBytes l → (mode_of records P levels place refs).Fits l r m → (l ≡ spelling m ++ r) × Stands m
@@ -314,9 +285,9 @@ module _ (records : ℕ) (P : Place → ℕ → Format Mode) (S : Place → ℕ 
       by (Mode-F.Ref x) o k = behind_back code.Ref m r (spelling x ++ r) (rw (lt-ltb 0 levels k.0, lt-ltb 0 refs k.1) refl) (rw (spelled_ref m x o) refl) (r, x, back Inside (refs - 1) r x k.2, (refl, made_ref m x o))
       by (Mode-F.RefArray x) o k = behind_back code.RefArray m r (spelling x ++ r) (rw (lt-ltb 0 levels k.0, lt-ltb 0 refs k.1) refl) (rw (spelled_ref_array m x o) refl) (r, x, back Inside 8 r x k.2, (refl, made_ref_array m x o))
       by (Mode-F.Array n x) o k = behind_back code.Array m r (word_bytes n ++ (spelling x ++ r)) (rw (k.0, lt-ltb 0 levels k.1) refl) (rw (spelled_array m x n o) refl)
-          (spelling x ++ r, n, word_back (λ n. leb 1 n && leb n 8191) (spelling x ++ r) n (length_back n k.2), (r, x, back Inside 8 r x k.3, (refl, made_array m x n o)))
+          (spelling x ++ r, n, test_back (λ n. leb 1 n && leb n 8191) (spelling x ++ r) n (length_back n k.2), (r, x, back Inside 8 r x k.3, (refl, made_array m x n o)))
       by (Mode-F.Record n) o k = behind_back code.Record m r (word_bytes n ++ r) (passed_not place k.0) (rw (spelled_record m n o) refl)
-          (r, n, word_back (λ k. ltb k records) r n (lt-ltb n records k.1), (refl, made_record m n o))
+          (r, n, test_back (λ k. ltb k records) r n (lt-ltb n records k.1), (refl, made_record m n o))
       by (Mode-F.Proc ps x) o k = behind_back code.Proc m r (length ps ∷ (joined (map spelling ps) ++ (result_spelling (option_map spelling x) ++ r))) (lt-ltb 0 levels k.0) (rw (spelled_few m ps x o k.1) (simp append_assoc)) (
         joined (map spelling ps) ++ (result_spelling (option_map spelling x) ++ r),
         length ps,
@@ -324,7 +295,7 @@ module _ (records : ℕ) (P : Place → ℕ → Format Mode) (S : Place → ℕ 
         (
           result_spelling (option_map spelling x) ++ r,
           ps,
-          times_back (P Passed 8) (S Passed 8) (there Passed 8) (back Passed 8) ps [] (result_spelling (option_map spelling x) ++ r) k.2,
+          times_back (P Passed 8) (S Passed 8) (there Passed 8) (back Passed 8) ps (result_spelling (option_map spelling x) ++ r) k.2,
           (r, x, result_back (P Passed 8) (S Passed 8) (there Passed 8) (back Passed 8) r x (λ y rest g e. begins_else y r rest e) k.3, (refl, made_proc m ps x o)),
         ),
       )

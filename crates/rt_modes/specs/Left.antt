@@ -75,8 +75,3 @@ text_of p = spelled p.table.now (left p)
 -- the bytes of a reader that are left
 abbrev pub rest_of : Reader → List ℕ
 rest_of r = drop r.place r.piece.items ++ text_of r.pieces
-
--- a text that grows by another has grown by the beginning of it
-pub record Grew (text old new : List ℕ) : Type 0 where
-  pub rest : List ℕ
-  pub is : new ++ rest ≡ old ++ text

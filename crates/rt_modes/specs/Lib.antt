@@ -1,4 +1,3 @@
-pub mod Fields
 pub mod FullMode
 pub mod Laws
 pub mod Left

@@ -12,7 +12,7 @@ use Rattle.rt_modes.specs.declared.mode.Mode.TheOpen.{Mode-F}
 use Rattle.rt_modes.specs.declared.mode.Mode.TheFolds.{fold-Mode}
 use Rattle.rt_modes.specs.declared.mode.Mode.TheVariants as mode
 use Rattle.rt_modes.specs.FullMode.{joined}
-use Rattle.rt_modes.specs.Fields.{Format, nothing, never, byte, word, ◌>>=◌, times, or_zero}
+use Rattle.rt_formats.specs.Format.{Format, nothing, never, byte, word, where_true, within, ◌>>=◌, times, or_zero}
 use Rattle.rt_words.specs.Bytes.{word_bytes}
 
 -- ---- the spelling
@@ -116,12 +116,8 @@ where_may may (Some c) = if may c then Some c else None
 abbrev pub code_at : Place → ℕ → ℕ → ℕ → Option Code
 code_at place levels refs b = where_may (may_stand place levels refs) (code_of b)
 
--- a number that passes a test
-abbrev pub where_true : (ℕ → Bool) → ℕ → Option ℕ
-where_true test n = if test n then Some n else None
-
 abbrev pub length_of : ℕ → Option ℕ
-length_of = where_true (λ n. nat_le 1 n && nat_le n 8191)
+length_of = within 1 8191
 
 abbrev pub record_of : ℕ → ℕ → Option ℕ
 record_of records = where_true (λ k. nat_lt k records)

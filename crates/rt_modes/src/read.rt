@@ -2,15 +2,17 @@
 
 ghost use Rattle.std.specs.Prelude.{◌≡◌, ◌≤◌, ◌-◌, ◌⊎◌, [], length, IfOk, IfErr, Ok, Err};
 ghost use Rattle.rt_modes.specs.Reading as reads;
-ghost use Rattle.rt_modes.specs.Reading.{Gives};
+ghost use Rattle.rt_formats.specs.Reading.{Gives};
+ghost use Rattle.rt_formats.specs.Reading as formats;
 ghost use Rattle.rt_modes.specs.Spelling.{StandsAt, RefusedAt, Faults};
 ghost use Rattle.rt_modes.specs.declared.mode.Mode.{Mode};
 ghost use Rattle.rt_modes.specs.declared.fault.ModeFault.TheVariants as fault;
 
 use crate::code::{Code, Place};
 use crate::fault::ModeFault;
-use crate::fields::{Stop, code, count, length, record};
+use crate::fields::{code, count, record};
 use crate::mode::Mode;
+use rt_formats::{Stop, read_word_within};
 use rt_words::{Boxed, List, Memory};
 use std::alloc::Global;
 
@@ -128,7 +130,7 @@ fn behind(
 fn array(alloc: Global, records: u16, levels: usize, bytes: &[u8]) -> Result<(Mode, &[u8]), Stop>
     ensures { Gives (λ x. (x.0, x.1.now)) result (reads.array (reads.inside records levels) bytes.now) }
 {
-    let (length, rest) = length(bytes)?;
+    let (length, rest) = read_word_within(1, 8191, bytes)?;
     let (of, rest) = inside(alloc, records, levels, Place::Inside, REFS, rest)?;
     Ok((Mode::Array(length, Boxed::new(alloc, of)?), rest))
 }
@@ -161,7 +163,7 @@ fn proc_of(alloc: Global, parameters: List<Mode>, answer: Option<Mode>) -> Resul
 
 /// So many modes of parameters.
 #[cycle(mode)]
-#[tactic(auto, unfolding(crate::specs::Reading::times))]
+#[tactic(auto, unfolding(rt_formats::specs::Reading::each))]
 fn parameters(
     alloc: Global,
     records: u16,
@@ -169,7 +171,7 @@ fn parameters(
     count: u8,
     bytes: &[u8],
 ) -> Result<(List<Mode>, &[u8]), Stop>
-    ensures { Gives (λ x. (x.0, x.1.now)) result (reads.times (reads.inside records levels Place.Passed 8) count [] bytes.now) }
+    ensures { Gives (λ x. (x.0, x.1.now)) result (formats.times (reads.inside records levels Place.Passed 8) count [] bytes.now) }
 {
     let mut found = List::new(alloc, usize::from(count))?;
     let mut rest = bytes;
@@ -190,7 +192,7 @@ fn result_of(
     levels: usize,
     bytes: &[u8],
 ) -> Result<(Option<Mode>, &[u8]), Stop>
-    ensures { Gives (λ x. (x.0, x.1.now)) result (reads.or_zero (reads.inside records levels Place.Passed 8) bytes.now) }
+    ensures { Gives (λ x. (x.0, x.1.now)) result (formats.or_zero (reads.inside records levels Place.Passed 8) bytes.now) }
 {
     match bytes.split_first() {
         Some((0, rest)) => Ok((None, rest)),

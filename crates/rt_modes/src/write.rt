@@ -2,7 +2,8 @@
 
 ghost use Rattle.std.specs.Prelude.{◌≡◌, ◌++◌, OnOk, OnErr};
 ghost use Rattle.rt_modes.specs.FullMode.{FullMode, FullData};
-ghost use Rattle.rt_modes.specs.Left.{text_of, Grew};
+ghost use Rattle.rt_modes.specs.Left.{text_of};
+ghost use Rattle.rt_formats.specs.Spelling.{Grew};
 
 use crate::mode::{Field, Mode, ModeTable};
 use crate::pieces::{Pieces, Todo};

@@ -1,5 +1,6 @@
 use Rattle.std.proofs.Common.{◌≡◌, ◌+◌, ◌-◌, ◌*◌, []}
 use Rattle.rt_modes.specs.declared.code.Place.TheVariants.{Passed}
+use Rattle.rt_formats.specs.Reading as formats
 use Rattle.rt_modes.specs.Reading as reads
 use Rattle.rt_modes.proofs.read.+mode.Given as goal
 
@@ -26,5 +27,5 @@ decreases-mode_of l = 8 * l.levels + 4
 
 -- All parameters are those found and as many more as there are turns left.
 abbrev pub invariant-parameters-loop-turn : goal.invariant-parameters-loop-turn
-invariant-parameters-loop-turn l = reads.times (reads.inside l.records l.levels Passed 8) l.count [] l.bytes
-    ≡ reads.times (reads.inside l.records l.levels Passed 8) (l.count - l._turn) l.found l.rest
+invariant-parameters-loop-turn l = formats.times (reads.inside l.records l.levels Passed 8) l.count [] l.bytes
+    ≡ formats.times (reads.inside l.records l.levels Passed 8) (l.count - l._turn) l.found l.rest
