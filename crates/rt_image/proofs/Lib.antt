@@ -1,0 +1,9 @@
+pub mod Fronts
+pub mod ImageLaws
+pub mod ImageReads
+pub mod InRange
+pub mod Lies
+pub mod Names
+pub mod Sizes
+pub mod Spelled
+pub mod Tests
