@@ -1,9 +1,9 @@
 -- The words of the commands are read as they are defined.
 use Rattle.std.proofs.Common.{◌≡◌, ◌⊎◌, inl, inr, ℕ, ◌≤◌, Bool, true, false, not, ◌&&◌, cond, eqb, nat_le, List, [], ◌∷◌, length, Option, Some, None, refl, sym, ap, subst, ◌∙◌, arith}
-use Rattle.std.specs.Prelude.{codes}
+use Rattle.std.specs.Prelude.{codes, IfSome, IfNone}
 use Rattle.std.specs.Str.{bytes_eq}
 use Rattle.std.proofs.lemmas.Bool.Decides.{nat_tests}
-use Rattle.rt_system.specs.Reading.{number}
+use Rattle.rt_system.specs.Reading.{number, Gives}
 use Rattle.rt_system.specs.ReadingSystems.{is_file, and_then}
 use Rattle.rt_system.proofs.Tests.{none_some, some_inj, passes, and_parts, and_both}
 use Rattle.rt_system.proofs.Words.{same_means}
@@ -12,7 +12,8 @@ use Rattle.rt_system.proofs.TickLineReads.{gap_by, le_means, le_is}
 use Rattle.rt_system.proofs.FieldReads.{is_file_means, is_file_is}
 use Rattle.rt_system.proofs.SystemLineReads.{found}
 use Rattle.rt_commands.specs.Commands.{IsLimit, IsCount, IsNamed, HasLimit, IsCommand}
-use Rattle.rt_commands.specs.Reading.{is_named, limit, positive, count, with_one, generate, compile, with_two, with_three, timed, with_four, command_of}
+use Rattle.rt_commands.specs.Reading.{is_named, limit, positive, count, with_one, generate, compile, with_two, with_three, timed, with_four, command_of, said}
+use Rattle.rt_commands.specs.declared.lent.CommandWords.{CommandWords}
 use Rattle.rt_commands.specs.declared.command.Command.{Command}
 use Rattle.rt_commands.specs.declared.command.Command.TheVariants.{Go, Compile, Link, Stacks, Run, Show, Gen}
 
@@ -200,3 +201,13 @@ one_command words c d h k = some_inj (sym (command_is words c h) ∙ command_is 
 
 pub no_command : (words : List (List ℕ)) → command_of words ≡ None → (c : Command) → IsCommand words c → ⊥
 no_command words e c h = none_some (sym e ∙ command_is words c h)
+
+-- ---- the words that are lent
+
+pub lent_means : (words : List (List ℕ)) (lent : Option CommandWords) → Gives said lent (command_of words) → IfSome lent (λ it. IsCommand words (said it))
+lent_means words (Some it) h = command_means words (said it) h
+lent_means words None h = tt
+
+pub lent_none : (words : List (List ℕ)) (lent : Option CommandWords) → Gives said lent (command_of words) → IfNone lent ((c : Command) → IsCommand words c → ⊥)
+lent_none words (Some it) h = tt
+lent_none words None h = no_command words h

@@ -5,9 +5,9 @@ use Rattle.rt_system.specs.Reading.{number}
 use Rattle.rt_system.specs.ReadingSystems.{is_file, and_then}
 use Rattle.rt_commands.specs.declared.command.Command.{Command}
 use Rattle.rt_commands.specs.declared.command.Command.TheVariants.{Go, Compile, Link, Stacks, Run, Show, Gen}
-use Rattle.rt_commands.specs.declared.asked.Asked.{Asked}
-use Rattle.rt_commands.specs.declared.asked.Timed.{Timed}
-use Rattle.rt_commands.specs.declared.asked.Asked.TheVariants as asked
+use Rattle.rt_commands.specs.declared.lent.CommandWords.{CommandWords}
+use Rattle.rt_commands.specs.declared.lent.TimedWords.{TimedWords}
+use Rattle.rt_commands.specs.declared.lent.CommandWords.TheVariants as lent
 
 abbrev pub is_named : List ℕ → Bool
 is_named word = not (length word == 0)
@@ -58,17 +58,18 @@ command_of (word ∷ a ∷ b ∷ c ∷ []) = with_three word a b c
 command_of (word ∷ a ∷ b ∷ c ∷ d ∷ []) = with_four word a b c d
 command_of _ = None
 
-abbrev pub go_of : Timed → Command
+abbrev pub go_of : TimedWords → Command
 go_of it = Go it.first.now it.second.now it.limit it.last.now
 
-abbrev pub run_of : Timed → Command
+abbrev pub run_of : TimedWords → Command
 run_of it = Run it.first.now it.second.now it.limit it.last.now
 
-abbrev pub said : Asked → Command
-said (asked.Go it) = go_of it
-said (asked.Compile source object) = Compile source.now object.now
-said (asked.Link system image map) = Link system.now image.now map.now
-said (asked.Stacks system) = Stacks system.now
-said (asked.Run it) = run_of it
-said (asked.Show object) = Show object.now
-said (asked.Gen n name) = Gen n name.now
+-- the command that these words say
+abbrev pub said : CommandWords → Command
+said (lent.Go it) = go_of it
+said (lent.Compile source object) = Compile source.now object.now
+said (lent.Link system image map) = Link system.now image.now map.now
+said (lent.Stacks system) = Stacks system.now
+said (lent.Run it) = run_of it
+said (lent.Show object) = Show object.now
+said (lent.Gen n name) = Gen n name.now

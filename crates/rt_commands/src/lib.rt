@@ -3,10 +3,11 @@
 //! Which words a command has is `IsCommand` (`specs/Commands.antt`), by their positions.
 #![tactic(auto)]
 
-mod asked;
 mod command;
+mod lent;
 mod numbers;
 mod words;
 
 pub use command::{Command, WordFault};
-pub use words::{one_command, read_words};
+pub use lent::{CommandWords, TimedWords};
+pub use words::{lend_words, one_command, read_words};

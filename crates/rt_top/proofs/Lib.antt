@@ -1,3 +1,4 @@
+pub mod WordReads
 pub mod Instructions
 pub mod Access
 pub mod CodeWords

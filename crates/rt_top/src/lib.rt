@@ -20,3 +20,4 @@ pub use command::top;
 pub use condition::Condition;
 pub use image::{Image, ImageTask};
 pub use refusal::Refusal;
+pub use rt_commands::{Command, WordFault, read_words};
