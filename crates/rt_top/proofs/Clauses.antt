@@ -1,11 +1,10 @@
 -- The clauses of the whole call, from how it ended.
-use Rattle.std.proofs.Common.{◌≡◌, ℕ, zero, suc, ◌<◌, ◌≤◌, List, [], ◌∷◌, length, get_or, Option, Some, None, refl, sym, ap, ◌∙◌, subst, inl, inr, arith}
+use Rattle.std.proofs.Common.{◌≡◌, ℕ, zero, suc, ◌<◌, ◌≤◌, List, [], length, Option, Some, None, refl, sym, ap, ◌∙◌, subst, inl, inr, arith}
 use Rattle.std.specs.Prelude.{◌⊎◌}
 use Rattle.rt_outside.specs.Files.{Files, longest}
 use Rattle.pdp_core.specs.Execute.{Outcome, execute}
 use Rattle.pdp_core.specs.declared.cpu.Stop.{Stop}
 use Rattle.pdp_core.specs.declared.cpu.Stop.TheVariants.{Went, Trap, Fault}
-use Rattle.rt_first.specs.Pieces.{IsDecimal}
 use Rattle.rt_first.specs.declared.module.FirstModule.{FirstModule}
 use Rattle.rt_first.specs.declared.system.FirstSystem.{FirstSystem}
 use Rattle.rt_first.proofs.ModuleReads.{one_module}
@@ -17,6 +16,7 @@ use Rattle.rt_top.specs.declared.refusal.Refusal.{Refusal}
 use Rattle.rt_top.specs.declared.refusal.Refusal.TheVariants.{LeftOut, LongModule, BadLine, LongText, NoFile}
 use Rattle.rt_top.specs.Console.{Request}
 use Rattle.rt_top.specs.Words.{Go, IsGo}
+use Rattle.rt_top.proofs.WordReads.{one_go}
 use Rattle.rt_top.specs.Outcome.{HasSystem, IsNoModule, Accepts, Refuses, system_missing, system_long, system_bad, ticks_missing, ticks_long, ticks_bad, module_missing, module_long, module_bad}
 use Rattle.rt_top.specs.Machine.{State, Reached, At, Over, Faulted, mark_at, pc, service, served, landed, judge, onward, boundary}
 use Rattle.rt_top.specs.Faithful.{Same, Meets, Faithful}
@@ -116,26 +116,6 @@ limit : (image : Image) (k : ℕ) (r : RunReport) → IsRun image k r → Reache
 limit image k r run = limit_reached image k (boundary image [] k) r (counted image [] k) (stops image [] k) (run [])
 
 -- ---- one reading of the words and of the files
-
-abbrev go_with : List ℕ → List ℕ → ℕ → List ℕ → Go
-go_with a c n e = record { system = a; ticks = c; limit = n; name = e }
-
-decimal_one : (digits : List ℕ) (n k : ℕ) → IsDecimal digits n → IsDecimal digits k → n ≡ k
-decimal_one [] n k a b = absurd a
-decimal_one (d ∷ ds) n k a b = sym a.1 ∙ b.1
-
-same_go : (a b c d e f : List ℕ) (n k : ℕ) → a ≡ b → c ≡ d → n ≡ k → e ≡ f → go_with a c n e ≡ go_with b d k f
-same_go a b c d e f n k p q r t = rw (p, q, r, t) refl
-
-pub one_go : (words : List (List ℕ)) (g h : Go) → IsGo words g → IsGo words h → g ≡ h
-one_go words g h a b =
-    let e = sym a.words_are ∙ b.words_are in
-    let system : g.system ≡ h.system = ap (λ l. get_or l 1 []) e in
-    let ticks : g.ticks ≡ h.ticks = ap (λ l. get_or l 2 []) e in
-    let digits : a.digits ≡ b.digits = ap (λ l. get_or l 3 []) e in
-    let name : g.name ≡ h.name = ap (λ l. get_or l 4 []) e in
-    let limits : g.limit ≡ h.limit = decimal_one b.digits g.limit h.limit (subst (λ d. IsDecimal d g.limit) digits a.limit.digits_of) b.limit.digits_of in
-    same_go g.system h.system g.ticks h.ticks g.name h.name g.limit h.limit system ticks limits name
 
 some_one : (content : Option (List ℕ)) (a b : List ℕ) → content ≡ Some a → content ≡ Some b → a ≡ b
 some_one content a b p q = let e : Some a ≡ Some b = sym p ∙ q in cc

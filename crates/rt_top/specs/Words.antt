@@ -1,6 +1,7 @@
 -- The words of the command `go`.
-use Rattle.std.specs.Prelude.{ℕ, ◌≡◌, ◌≢◌, ◌≤◌, List, [], ◌∷◌, ◌++◌, length, codes}
-use Rattle.rt_first.specs.Pieces.{IsDecimal}
+use Rattle.std.specs.Prelude.{ℕ, List, ◌++◌, codes}
+use Rattle.rt_commands.specs.Commands.{IsCommand}
+use Rattle.rt_commands.specs.declared.command.Command.TheVariants as command
 
 -- what `go` is asked to do: the names of the system and tick texts, the limit, and the name of what is written
 pub record Go : Type 0 where
@@ -9,22 +10,11 @@ pub record Go : Type 0 where
   pub limit : ℕ
   pub name : List ℕ
 
--- 1 to 10 decimal digits with a value up to 4,000,000,000
-pub record IsLimit (digits : List ℕ) (limit : ℕ) : Type 0 where
-  pub digits_of : IsDecimal digits limit
-  pub few : length digits ≤ 10
-  pub most : limit ≤ 4000000000
+-- the words are those of the command `go`
+abbrev pub IsGo : List (List ℕ) → Go → Type 0
+IsGo words g = IsCommand words (command.Go g.system g.ticks g.limit g.name)
 
--- the words are go SYSTEM TICKS LIMIT NAME, the files by words that aren't empty
-pub record IsGo (words : List (List ℕ)) (g : Go) : Type 0 where
-  pub digits : List ℕ
-  pub words_are : words ≡ codes "go" ∷ g.system ∷ g.ticks ∷ digits ∷ g.name ∷ []
-  pub limit : IsLimit digits g.limit
-  pub system : g.system ≢ []
-  pub ticks : g.ticks ≢ []
-  pub name : g.name ≢ []
-
--- no command has these words
+-- no command that is built has these words
 abbrev pub IsNoCommand : List (List ℕ) → Type 0
 IsNoCommand words = (g : Go) → IsGo words g → ⊥
 
