@@ -11,3 +11,4 @@ pub mod SystemLineReads
 pub mod SystemLimits
 pub mod SystemReads
 pub mod SomeReading
+pub mod TickReading

@@ -14,7 +14,7 @@ use Rattle.rt_system.proofs.SystemReads.{no_room, adds, IsRead, starts, next, fi
 abbrev HasReading : Bool → List ℕ → Type 0
 HasReading objects bytes = (r : Reading) × Reads objects bytes r
 
-after_shorter : (text : List ℕ) → 1 ≤ length text → suc (length (after_line text)) ≤ length text
+pub after_shorter : (text : List ℕ) → 1 ≤ length text → suc (length (after_line text)) ≤ length text
 unfolding after_line
 after_shorter text some = omega (arith, length-drop (inside text + 1) text)
 

@@ -16,13 +16,13 @@ use Rattle.rt_system.proofs.LineReads.{first_of_lines, no_lines}
 use Rattle.rt_system.proofs.Says.{flat_map_append, says_more, says_split, says_one, takes_next, takes_all, HasGoodFronts, one_bad, none_bad}
 use Rattle.rt_system.proofs.TickLineReads.{tick_line_means, tick_line_is, one_kind}
 
-abbrev HasTicks : List (List ℕ) → Type 0
+abbrev pub HasTicks : List (List ℕ) → Type 0
 HasTicks ls = (gaps : List ℕ) × AreTicks ls gaps
 
 shorter : (a b c : List ℕ) → a ≡ b ++ c → length a ≤ 200000 → length b ≤ 200000
 shorter a b c e le = omega (arith, ap length e, length-append b c)
 
-fronts : HasGoodFronts HasTicks
+pub fronts : HasGoodFronts HasTicks
 fronts a b h =
     let s = says_split IsTickLine a b h.1.kinds h.1.each in
     let e = h.1.are ∙ ap (flat_map ticks_of) s.parts ∙ flat_map_append ticks_of s.left s.right in (
@@ -35,7 +35,7 @@ fronts a b h =
       },
     )
 
-one_gaps : (ls : List (List ℕ)) (a b : List ℕ) → AreTicks ls a → AreTicks ls b → a ≡ b
+pub one_gaps : (ls : List (List ℕ)) (a b : List ℕ) → AreTicks ls a → AreTicks ls b → a ≡ b
 one_gaps ls a b h i = h.are ∙ ap (flat_map ticks_of) (says_one IsTickLine one_kind ls h.kinds i.kinds h.each i.each) ∙ sym i.are
 
 -- ---- the lines that are read

@@ -17,7 +17,7 @@ mod ticks;
 
 pub use fault::LineFault;
 pub use fields::is_file;
-pub use laws::texts_have_one_reading;
+pub use laws::{texts_have_one_reading, tick_texts_have_one_reading};
 pub use library_text::library;
 pub use numbers::number;
 pub use parts::{Entry, SystemParts, Task};
