@@ -2,6 +2,7 @@ ghost use Rattle.std.specs.Prelude.{◌≡◌, ◌-◌, ◌≤◌, length, IfOk}
 ghost use Rattle.pdp_code.specs.declared.instruction.Reg.TheVariants.{R0, R1, Sp, Pc};
 ghost use Rattle.pdp_core.specs.Execute.{reg, with_reg};
 ghost use Rattle.rt_tasks.specs.Steps.{Steps, KeepsAtFault, AsksByTrap, AnswersTrap};
+ghost use Rattle.rt_tasks.specs.Parts.{LieInOrder};
 ghost use Rattle.rt_tasks.specs.Start.{IsStart};
 ghost use Rattle.rt_tasks.specs.Traps.{mark_of, trap_at};
 
@@ -38,7 +39,8 @@ impl Parked {
     pub fn open(alloc: Global, image: &Image, task: u8) -> Result<Parked, Memory>
         requires first { 1 ≤ task }
         requires there { task ≤ length image.now.tasks }
-        ensures { IfOk result (IsStart image.now (task - 1)) }
+        ensures start { IfOk result (IsStart image.now (task - 1)) }
+        ensures order { IfOk result (λ t. LieInOrder t.own t.places) }
     {
         let parts = image.parts();
         let n = usize::from(task) - 1;

@@ -1,0 +1,10 @@
+pub mod Settling
+pub mod Carrying
+pub mod Lending
+pub mod Stepping
+pub mod Turning
+pub mod Slots
+pub mod Serving
+pub mod Completing
+pub mod Going
+pub mod Starting

@@ -1,0 +1,80 @@
+-- What services keep of the rules.
+use Rattle.std.proofs.Common.{◌≡◌, ℕ, zero, suc, ◌+◌, ◌≤◌, Bool, true, false, if◌then◌else◌, ◌==◌, List, length, Option, Some, None, refl, ap, ◌∙◌, subst, arith, length-set}
+use Rattle.rt_rules.specs.declared.task.State.{State as Condition}
+use Rattle.rt_rules.specs.declared.task.TaskRow.{TaskRow}
+use Rattle.rt_rules.specs.declared.service.Svc.{Svc}
+use Rattle.rt_rules.specs.declared.service.Svc.TheVariants.{Delay, Wait, Signal, Secure, Release, Clock, TaskNo, Gel, End}
+use Rattle.rt_rules.specs.declared.service.Outcome.{Outcome}
+use Rattle.rt_rules.specs.Roster.{Roster, InRanges, owner_of, flag_of}
+use Rattle.rt_rules.specs.Rules.{running, with_row, arrives, becomes, give, give_to, give_if_owned, gives_from, first, awaits_facility, awaits_event, raise_for, serve as serve_rules, is_number, is_delay}
+use Rattle.rt_rules.specs.Laws.{ServiceRaises}
+use Rattle.rt_run.specs.declared.service.Request.{Request}
+use Rattle.rt_run.specs.declared.service.Request.TheVariants.{Nothing, Reads, Puts, Calls}
+use Rattle.rt_run.specs.Services.{Served, serve, asked_by}
+use Rattle.pdp_core.specs.declared.cpu.Regs.{Regs}
+use Rattle.rt_tasks.specs.Parts.{Sharing}
+use Rattle.rt_run.specs.Carrying.{Carries}
+
+abbrev Kept : Roster → Roster → Type 0
+Kept r q = length q.tasks ≡ length r.tasks
+
+kept_row : (r : Roster) (i : ℕ) (t : TaskRow) → Kept r (with_row r i t)
+kept_row r i t = simp length-set
+
+kept_arrives : (r : Roster) (i : ℕ) (c : Condition) → Kept r (arrives r i c)
+kept_arrives r i c = simp length-set
+
+kept_becomes : (r : Roster) (i : ℕ) (c : Condition) → Kept r (becomes r i c)
+kept_becomes r i c = simp length-set
+
+kept_give_to : (r : Roster) (n : ℕ) (o : Option ℕ) → Kept r (give_to r n o)
+kept_give_to r n None = refl
+kept_give_to r n (Some i) = simp length-set
+
+kept_if : (r a b : Roster) (c : Bool) → Kept r a → Kept r b → Kept r (if c then a else b)
+kept_if r a b true h k = h
+kept_if r a b false h k = k
+
+kept_gives : (i n k : ℕ) (r : Roster) → Kept r (gives_from i n k r)
+unfolding gives_from
+kept_gives i n zero r = refl
+kept_gives i n (suc k) r = kept_gives i (n + 1) k (give_if_owned r i n) ∙ kept_if r (give r n) r (owner_of r n == i) (kept_give_to r n (first (awaits_facility n) r)) refl
+
+kept_raise : (r : Roster) (n : ℕ) (o : Option ℕ) → Kept r (raise_for r n o)
+kept_raise r n None = refl
+kept_raise r n (Some i) = simp length-set
+
+either : (r : Roster) (c : Bool) (a b : Roster × Outcome) → Kept r a.0 → Kept r b.0 → Kept r (if c then a else b).0
+either r true a b h k = h
+either r false a b h k = k
+
+kept_service : (r : Roster) (i : ℕ) (svc : Svc) → Kept r (serve_rules r i svc).0
+kept_service r i (Delay n) = either r (is_delay n) _ _ (kept_arrives r i _) (kept_arrives r i _)
+kept_service r i (Wait n) = either r (is_number n) _ _ (either r (flag_of r n) _ _ refl (kept_arrives r i _)) refl
+kept_service r i (Signal n) = either r (is_number n) _ _ (kept_raise r n (first (awaits_event n) r)) refl
+kept_service r i (Secure n) = either r (is_number n) _ _ (either r (owner_of r n == i) _ _ refl (either r (owner_of r n == 0) _ _ refl (kept_arrives r i _))) refl
+kept_service r i (Release n) = either r (is_number n) _ _ (either r (owner_of r n == i) _ _ (kept_give_to r n (first (awaits_facility n) r)) refl) refl
+kept_service r i Clock = refl
+kept_service r i TaskNo = refl
+kept_service r i (Gel n) = kept_becomes (gives_from i 1 32 r) i _ ∙ kept_gives i 1 32 r
+kept_service r i End = kept_becomes (gives_from i 1 32 r) i _ ∙ kept_gives i 1 32 r
+
+-- what an instruction and its service leave of the rules: as many tasks, the same clock, and a stamp that is a little later
+pub record Rises (r q : Roster) : Type 0 where
+  pub tasks : length q.tasks ≡ length r.tasks
+  pub clock : q.clock ≡ r.clock
+  pub stamp : q.stamp ≤ r.stamp + 32
+
+stays : (r : Roster) → Rises r r
+stays r = record { tasks = refl; clock = refl; stamp = omega arith }
+
+served : ServiceRaises → (r : Roster) (taken : ℕ) (next : Option ℕ) (i : ℕ) (q : Request) → InRanges r → running r ≡ Some i → Rises r (serve r taken next i q).rules
+served law r taken next i Nothing ranges runs = stays r
+served law r taken None i Reads ranges runs = stays r
+served law r taken (Some b) i Reads ranges runs = stays r
+served law r taken next i (Puts b) ranges runs = stays r
+served law r taken next i (Calls svc) ranges runs = let l = law r i svc ranges runs in record { tasks = kept_service r i svc; clock = l.0; stamp = l.1 }
+
+pub rises : ServiceRaises → (i : ℕ) (left written left2 written2 : Option (List ℕ)) (g h : Regs) (s s2 : Sharing) (r r2 : Roster) → InRanges r → running r ≡ Some i → Carries i left written g s r left2 written2 h s2 r2 → Rises r r2
+rises law i left written left2 written2 g h s s2 r r2 ranges runs c =
+    subst (λ (q : Roster). Rises r q) (ap (λ (v : Served). v.rules) (c.service 0)) (served law r 0 c.next i (asked_by c.stop c.after) ranges runs)

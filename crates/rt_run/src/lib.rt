@@ -1,0 +1,19 @@
+//! The machine run under ticks.
+//!
+//! - [`Run::open`]: the start of an image, under the ticks of a list.
+//! - [`Run::go`]: the run up to a limit of instructions, with a console; it can go on by a further call.
+//!
+//! `specs/Boundaries.antt` has the run, boundary by boundary, over one memory; `specs/Services.antt` what a TRAP asks for;
+//! `specs/Picture.antt` how a [`Run`] shows a state of the machine; `specs/Runs.antt` what a call of `go` comes to.
+#![tactic(auto)]
+
+mod carry;
+mod machine;
+mod open;
+mod run;
+mod service;
+mod settle;
+mod timetable;
+
+pub use machine::End;
+pub use run::Run;
