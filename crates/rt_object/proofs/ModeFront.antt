@@ -1,6 +1,6 @@
 -- A mode is read back whatever follows it.
-use Rattle.std.proofs.Common.{◌≡◌, ℕ, zero, suc, ◌-◌, List, [], ◌∷◌, ◌++◌, Option, Some, None, inl, inr, refl, sym, ap, ◌∙◌}
-use Rattle.rt_formats.specs.Format.{Format, nothing, never, byte, word, ◌>>=◌, times, or_zero}
+use Rattle.std.proofs.Common.{◌≡◌, ℕ, zero, suc, ◌-◌, List, [], ◌∷◌, ◌++◌, Some, inl, inr, refl, sym, ap, ◌∙◌}
+use Rattle.rt_formats.specs.Format.{Format, nothing, byte, word, ◌>>=◌, times, or_zero}
 use Rattle.rt_formats.specs.Laws.{IsReadBack}
 use Rattle.rt_formats.proofs.Front.{front_nothing, front_never, front_byte, front_word, front_then, front_times}
 use Rattle.rt_modes.specs.declared.code.Code.{Code}
@@ -9,7 +9,7 @@ use Rattle.rt_modes.specs.declared.code.Place.{Place}
 use Rattle.rt_modes.specs.declared.code.Place.TheVariants.{Alone, Inside, Passed}
 use Rattle.rt_modes.specs.declared.mode.Mode.{Mode}
 use Rattle.rt_modes.specs.declared.mode.Mode.TheVariants as mode
-use Rattle.rt_modes.specs.Spelling.{code_at, code_of, where_may, may_stand, length_of, record_of, count_of, behind, mode_of, inside, mode_format}
+use Rattle.rt_modes.specs.Spelling.{code_at, length_of, record_of, count_of, behind, mode_of, inside, mode_format}
 
 -- what fits begins with a byte that isn't 0
 BeginsElse : {A : Type 0} → Format A → Type 0

@@ -2,7 +2,7 @@
 use Rattle.std.proofs.Common.{ℕ, Bool, List, [], ◌∷◌, ◌++◌, length, map, codes}
 use Rattle.rt_formats.specs.Format.{Format, nothing, byte, word, block, tag, name, where_true, any, within, ◌>>=◌, each, times, passing}
 use Rattle.rt_modes.specs.Spelling.{mode_format}
-use Rattle.std.proofs.Common.{inl, inr, arith}
+use Rattle.std.proofs.Common.{inl, inr, take, arith}
 use Rattle.rt_formats.proofs.Within.{Within, in_nothing, in_byte, in_word, in_block, in_tag, in_name, in_then, in_each, in_times, in_passing}
 use Rattle.rt_modes.proofs.Within.{in_mode}
 use Rattle.rt_modes.specs.declared.mode.Field.{Field}
@@ -132,13 +132,13 @@ in_taken bricks = in_then (word any) _ in_any (λ count. in_each (λ before. wor
 in_all_records : Within (word any >>= (λ count. each (spec.record_format count) count []))
 in_all_records = in_then (word any) _ in_any (λ count. in_each (spec.record_format count) (in_record count) count [])
 
-in_front_records : (before : List RecordDef) → Within (spec.front_records before)
-in_front_records before = in_then (word any) _ in_any (λ count. in_each (spec.record_format count) (in_record count) (length before) [])
+in_front_records : (k : ℕ) → Within (spec.front_records k)
+in_front_records k = in_then (word any) _ in_any (λ count. in_each (spec.record_format count) (in_record count) k [])
 
 in_records : Within spec.records_format
 in_records = record {
   left = λ l r records f. in_all_records.left l r records f.0;
-  field = λ l n f. elim f [ inl k ↦ in_all_records.field l n k | inr (r, records, before, after, fits, split, bad, none, (m, front, e)) ↦ let one = (in_front_records before).left l m before front in omega arith ];
+  field = λ l n f. elim f [ inl k ↦ in_all_records.field l n k | inr (r, records, k, fits, bad, (m, front, e)) ↦ let one = (in_front_records k).left l m (take k records) front in omega arith ];
 }
 
 pub in_object : Within spec.object_format

@@ -1,5 +1,5 @@
 -- The bytes of an object, field by field.
-use Rattle.std.specs.Prelude.{◌≡◌, ℕ, suc, ◌%◌, ◌<◌, ◌==◌, ◌⊎◌, nat_lt, nat_le, Bool, true, false, not, ◌&&◌, if◌then◌else◌, List, [], ◌∷◌, ◌++◌, length, map, codes, slice_get, Option, Some, None}
+use Rattle.std.specs.Prelude.{◌≡◌, ℕ, suc, ◌%◌, ◌<◌, ◌==◌, ◌⊎◌, nat_lt, nat_le, Bool, true, false, not, ◌&&◌, if◌then◌else◌, List, [], ◌∷◌, ◌++◌, length, map, codes, slice_get, Option, Some, None, take}
 use Rattle.std.specs.List.{AllByRecursion, list_any}
 use Rattle.std.specs.Str.{bytes_eq}
 use Rattle.rt_formats.specs.Format.{Format, Spell, AreRefusedAt, nothing, byte, word, block, tag, name, where_true, any, within, ◌>>=◌, each, times, passing}
@@ -161,20 +161,25 @@ record_format records before = do
   fields ← fields_format records is_no_label
   nothing (record { name = new; fields = fields })
 
+-- record k is bad, and none before it is
+pub record IsFirstBad (records : List RecordDef) (k : ℕ) : Type 0 where
+  pub there : k < length records
+  pub bad : IsBadRecord records k
+  pub none_before : (j : ℕ) → j < k → IsBadRecord records j → ⊥
+
 -- where no record is bad; the first bad one is refused where its record begins
-abbrev pub without_bad : (List RecordDef → Format (List RecordDef)) → Format (List RecordDef) → Format (List RecordDef)
+abbrev pub without_bad : (ℕ → Format (List RecordDef)) → Format (List RecordDef) → Format (List RecordDef)
 without_bad front p = record {
   Fits = λ l r records. p.Fits l r records × ((k : ℕ) → k < length records → IsBadRecord records k → ⊥);
   Refuses = λ l n. p.Refuses l n
-      ⊎ ((r : List ℕ) × (records : List RecordDef) × (before after : List RecordDef) × p.Fits l r records × (records ≡ before ++ after) × IsBadRecord records (length before)
-      × ((k : ℕ) → k < length before → IsBadRecord records k → ⊥) × ((m : List ℕ) × (front before).Fits l m before × (n ≡ length m)));
+      ⊎ ((r : List ℕ) × (records : List RecordDef) × (k : ℕ) × p.Fits l r records × IsFirstBad records k × ((m : List ℕ) × (front k).Fits l m (take k records) × (n ≡ length m)));
 }
 
 -- the number of records, and the first of them
-abbrev pub front_records : List RecordDef → Format (List RecordDef)
-front_records before = do
+abbrev pub front_records : ℕ → Format (List RecordDef)
+front_records k = do
   count ← word any
-  each (record_format count) (length before) []
+  each (record_format count) k []
 
 -- records = word {name fields}
 abbrev pub records_format : Format (List RecordDef)

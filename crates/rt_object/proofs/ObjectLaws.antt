@@ -1,0 +1,42 @@
+-- Laws of the bytes of objects.
+use Rattle.std.proofs.Common.{◌≡◌, ℕ, ◌-◌, inl, inr, List, [], ◌∷◌, ◌++◌, length, sym, ap, subst, ◌∙◌, arith}
+use Rattle.std.proofs.lemmas.List.{append-nil}
+use Rattle.rt_formats.specs.Format.{Format, Spell, whole}
+use Rattle.rt_object.specs.Grammar.{object_format}
+use Rattle.rt_object.specs.Laws.{NoneBegins, NeverBoth, HaveOnePlace, HaveOneVersion}
+use Rattle.rt_object.proofs.ObjectFront.{front_object}
+use Rattle.rt_object.proofs.Sure.{Sure, sure_object}
+
+pub no_beginning : NoneBegins
+no_beginning bytes rest o p h k =
+    let front = front_object.back bytes [] o h.fields in
+    let same : bytes ≡ front.0 = front.1 ∙ append-nil front.0 in
+    let again : object_format.Fits (bytes ++ rest) rest o = subst (λ t. object_format.Fits (t ++ rest) rest o) (sym same) (front.2 rest) in
+    sure_object.one (bytes ++ rest) rest [] o p again k.fields
+
+-- what is refused of all bytes is none of what they are
+whole_apart : {A : Type 0} (P : Format A) → Sure P → (bytes : List ℕ) (a : A) (n : ℕ) → Spell P bytes a → (whole P).Refuses bytes n → ⊥
+whole_apart P g bytes a n f (inl x) = g.apart bytes [] a n f x
+whole_apart P g bytes a n f (inr (b, r, x, fits, e)) = let same : [] ≡ b ∷ r = (g.one bytes [] (b ∷ r) a x f fits).0 in cc
+
+whole_place : {A : Type 0} (P : Format A) → Sure P → (bytes : List ℕ) (m n : ℕ) → (whole P).Refuses bytes m → (whole P).Refuses bytes n → m ≡ n
+whole_place P g bytes m n (inl x) (inl y) = g.place bytes m n x y
+whole_place P g bytes m n (inl x) (inr (b, r, a, fits, e)) = absurd (g.apart bytes (b ∷ r) a m fits x)
+whole_place P g bytes m n (inr (b, r, a, fits, e)) (inl y) = absurd (g.apart bytes (b ∷ r) a n fits y)
+whole_place P g bytes m n (inr (b, r, a, fits, e)) (inr (b', r', a', fits', e')) = e ∙ ap length (g.one bytes (b ∷ r) (b' ∷ r') a a' fits fits').0 ∙ sym e'
+
+pub never_both : NeverBoth
+never_both bytes o at h k = whole_apart object_format sure_object bytes o (length bytes - at) h.fields k.refused.refused
+
+pub one_place : HaveOnePlace
+one_place bytes at other h k =
+    let same = whole_place object_format sure_object bytes (length bytes - at) (length bytes - other) h.refused.refused k.refused.refused in
+    let one = h.refused.inside in
+    let two = k.refused.inside in
+    omega arith
+
+fourth : (a b c d e f g i : ℕ) (r s : List ℕ) → a ∷ (b ∷ (c ∷ (d ∷ r))) ≡ e ∷ (f ∷ (g ∷ (i ∷ s))) → d ≡ i
+fourth a b c d e f g i r s same = cc
+
+pub one_version : HaveOneVersion
+one_version bytes o found h (rest, e, other) = other (sym (fourth 82 84 79 1 82 84 79 found h.fields.0 rest (sym h.fields.2 ∙ e)))
