@@ -144,11 +144,11 @@ module _ (image : ImageParts) (gaps all : List ℕ) where
   }
   not_done s i limit NoRead d d2 left left2 written written2 h shows settled at told runs few t = record {
     comes = stays s d2 left2 written written2 (subst (λ (e : Standing). Shows image e s) (sym t.0) shows) settled at (kept_told left left2 (drop s.taken all) told t.2) (subst (λ (o : Option (List ℕ)). Keeps written o) (sym t.3) (keeps_same written));
-    ends = record { task = i; at = somebody s i at settled runs; runs = runs; asks = t.1 };
+    ends = record { few = few; task = i; at = somebody s i at settled runs; runs = runs; asks = t.1 };
   }
   not_done s i limit NoWrite d d2 left left2 written written2 h shows settled at told runs few t = record {
     comes = stays s d2 left2 written written2 (subst (λ (e : Standing). Shows image e s) (sym t.0) shows) settled at (t.2 ∙ told) t.3;
-    ends = record { task = i; at = somebody s i at settled runs; runs = runs; asks = t.1 };
+    ends = record { few = few; task = i; at = somebody s i at settled runs; runs = runs; asks = t.1 };
   }
 
   pub done_turns : (s : State) (i : ℕ) (x : Carried) (d d2 : Standing) (left left2 written written2 : Option (List ℕ)) → counts x ≡ true → IsTurned image all s i x d d2 left left2 written written2 → Turns image all s i d2 left2 written written2

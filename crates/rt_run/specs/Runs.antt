@@ -1,5 +1,5 @@
 -- What a run comes to.
-use Rattle.std.specs.Prelude.{◌≡◌, ℕ, List, ◌++◌, Option, Some, None, drop}
+use Rattle.std.specs.Prelude.{◌≡◌, ◌<◌, ℕ, List, ◌++◌, Option, Some, None, drop}
 use Rattle.std.specs.Io.KnownBytes.{Appends}
 use Rattle.rt_image.specs.declared.image.ImageParts.{ImageParts}
 use Rattle.rt_rules.specs.Rules.{running}
@@ -15,8 +15,9 @@ use Rattle.rt_run.specs.Turn.{Asks}
 abbrev pub IsAtBoundary : ImageParts → List ℕ → List ℕ → State → Type 0
 IsAtBoundary image gaps all s = boundary_at s ≡ boundary image gaps all (instructions s)
 
--- the console's input or output failed before the next instruction, which is TRAP n
-pub record Waits (image : ImageParts) (gaps all : List ℕ) (s : State) (n : ℕ) : Type 0 where
+-- the console's input or output failed before the next instruction, which is TRAP n, and the limit isn't reached
+pub record Waits (image : ImageParts) (gaps all : List ℕ) (limit : ℕ) (s : State) (n : ℕ) : Type 0 where
+  pub few : instructions s < limit
   pub task : ℕ
   pub at : boundary image gaps all (instructions s) ≡ At s
   pub runs : running s.rules ≡ Some task
@@ -36,8 +37,8 @@ IsEnd image gaps all limit Ended s = boundary image gaps all limit ≡ Over AllE
 IsEnd image gaps all limit Stalled s = boundary image gaps all limit ≡ Over IsStalled s
 IsEnd image gaps all limit Limit s = (boundary image gaps all limit ≡ At s) × (instructions s ≡ limit)
 IsEnd image gaps all limit (Fault i kind at) s = boundary image gaps all limit ≡ Over (Faulted i kind at) s
-IsEnd image gaps all limit ReadFault s = Waits image gaps all s 1
-IsEnd image gaps all limit WriteFault s = Waits image gaps all s 2
+IsEnd image gaps all limit ReadFault s = Waits image gaps all limit s 1
+IsEnd image gaps all limit WriteFault s = Waits image gaps all limit s 2
 
 -- from one state to another, which the run shows then: no tick is due there, and these bytes were taken and put
 pub record Comes (image : ImageParts) (gaps all : List ℕ) (s : State) (d : Standing) (left written written2 : Option (List ℕ)) : Type 0 where

@@ -1,0 +1,39 @@
+//! Cases of the machine run, as lines of standard input: images under ticks, with consoles in memory that fail at named calls.
+//!
+//! Each line is copied, and below a case stands its answer, which begins with `= `. What follows `#` is no part of a case.
+//!
+//! - `ticks 5 0*3`: the gaps of the ticks, for the images behind it. `ticks` alone: there are none.
+//! - `input AB : 1 3`: the console's input, whose first and third call fail. `output 100 : 2`: its output, with room for a
+//!   hundred bytes, whose second call fails.
+//! - `image 52544901 ..`: a run of the image that these bytes are, in hexadecimal digits, with what stands before it.
+//! - `go 100`: the run up to so many instructions, counted from the start.
+//!
+//! `Limit; instructions 10, steps 20; ticks 0 0; <AB>; queue 1: 1` says how the run ended, how many instructions were carried
+//! out and the marks of them added up, the steps at each tick that was taken, what was put, and which tasks are ready by priority.
+#![tactic(auto)]
+
+mod case;
+mod runs;
+mod show;
+mod texts;
+
+use case::{Case, describe};
+use rt_words::{Memory, Text};
+use std::io;
+use std::io::Write;
+
+fn main(rt: HostRuntime) -> io::Result<()> {
+    let mut case = Case::new(rt.alloc());
+    for line in rt.lines(rt.alloc()) {
+        tell(&rt, line?.as_str(), &mut case)?;
+    }
+    Ok(())
+}
+
+fn tell<R: Print + AllocGlobal>(rt: &R, line: &str, case: &mut Case) -> io::Result<()> {
+    let mut out = Text::from_vec(Vec::new(rt.alloc()));
+    match describe(rt.alloc(), line, case, &mut out) {
+        Ok(()) => io::writer(rt).write_all(out.as_slice()),
+        Err(Memory) => println!(rt; "out of memory"),
+    }
+}
