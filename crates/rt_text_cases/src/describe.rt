@@ -7,7 +7,7 @@ use crate::frames::frame;
 use crate::grafts::{bound, cut, graft_brick, graft_line, graft_made};
 use crate::modules::{checked, typed};
 use crate::pieces::{counted, items_of, piece};
-use crate::runs::{run, run_whole, trace};
+use crate::runs::{Way, run, trace};
 use crate::stop::Stop;
 use crate::syntax::syntax;
 use std::alloc::Global;
@@ -57,8 +57,8 @@ fn obey(alloc: Global, case: &mut Case, line: &str, out: &mut String) -> Result<
 // What is asked of the whole case.
 fn ask(alloc: Global, case: &Case, word: &str, rest: &str, out: &mut String) -> Result<(), Stop> {
     match word {
-        "RUN" => run(alloc, case, rest, out),
-        "SYSTEM" => run_whole(alloc, case, rest, out),
+        "RUN" => run(alloc, case, Way::FromState, rest, out),
+        "SYSTEM" => run(alloc, case, Way::FromModules, rest, out),
         "TRACE" => trace(alloc, case, rest, out),
         "PIECE" => piece(alloc, case, rest, out),
         "BODY" => body(alloc, case, rest, out),

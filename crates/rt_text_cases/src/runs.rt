@@ -15,60 +15,44 @@ use rt_words::List;
 use std::alloc::Global;
 use std::fmt::Write;
 
+/// By which call a system is run.
+#[derive(Clone, Copy)]
+pub enum Way {
+    /// From its starting state.
+    FromState,
+    /// From its modules, by the one call that does all.
+    FromModules,
+}
+
 /// Writes what the run of so many steps comes to, with a tick after each of the numbers of steps behind it.
-pub fn run(alloc: Global, case: &Case, rest: &str, out: &mut String) -> Result<(), Stop> {
+pub fn run(alloc: Global, case: &Case, way: Way, rest: &str, out: &mut String) -> Result<(), Stop> {
     let system = system_of(alloc, case, "", out)?;
     let numbers = numbers(alloc, rest)?;
     match numbers.as_slice() {
         [steps, placements @ ..] if *steps <= 100000 && placements.len() <= 200000 => {
-            run_from(alloc, &system, *steps, placements, case, out)
+            let input = case.input.as_str().as_bytes();
+            let reached = reached(alloc, &system, way, *steps, placements, input)?;
+            show_run(&reached, out)
         }
         _ => Err(Stop::Line),
     }
 }
 
-fn run_from(
-    alloc: Global,
-    system: &System,
-    steps: u64,
-    placements: &[u64],
-    case: &Case,
-    out: &mut String,
-) -> Result<(), Stop>
-    requires few { length placements.now ≤ 200000 }
-    requires steps { steps ≤ 100000 }
-{
-    if !may_start(system.modules.as_slice(), system.tasks.as_slice()) {
-        return Err(Stop::Line);
-    }
-    let state = SourceState::start(alloc, system.modules.as_slice(), system.tasks.as_slice())?;
-    let input = case.input.as_str().as_bytes();
-    match source_run(alloc, state, placements, input, steps)? {
-        Some(run) => show_reached(&run, out),
+fn show_run(reached: &Option<Reached>, out: &mut String) -> Result<(), Stop> {
+    match reached {
+        Some(run) => show_reached(run, out),
         None => Ok(out.push_str(" no such run")?),
     }
 }
 
-/// The same, by the one call from the modules on.
-pub fn run_whole(alloc: Global, case: &Case, rest: &str, out: &mut String) -> Result<(), Stop> {
-    let system = system_of(alloc, case, "", out)?;
-    let numbers = numbers(alloc, rest)?;
-    match numbers.as_slice() {
-        [steps, placements @ ..] if *steps <= 100000 && placements.len() <= 200000 => {
-            run_at_once(alloc, &system, *steps, placements, case, out)
-        }
-        _ => Err(Stop::Line),
-    }
-}
-
-fn run_at_once(
+fn reached(
     alloc: Global,
     system: &System,
+    way: Way,
     steps: u64,
     placements: &[u64],
-    case: &Case,
-    out: &mut String,
-) -> Result<(), Stop>
+    input: &[u8],
+) -> Result<Option<Reached>, Stop>
     requires few { length placements.now ≤ 200000 }
     requires steps { steps ≤ 100000 }
 {
@@ -76,10 +60,12 @@ fn run_at_once(
     if !may_start(modules, tasks) {
         return Err(Stop::Line);
     }
-    let input = case.input.as_str().as_bytes();
-    match run_system(alloc, modules, tasks, placements, input, steps)? {
-        Some(run) => show_reached(&run, out),
-        None => Ok(out.push_str(" no such run")?),
+    match way {
+        Way::FromState => {
+            let state = SourceState::start(alloc, modules, tasks)?;
+            Ok(source_run(alloc, state, placements, input, steps)?)
+        }
+        Way::FromModules => Ok(run_system(alloc, modules, tasks, placements, input, steps)?),
     }
 }
 
