@@ -1,0 +1,4 @@
+pub mod Steps
+pub mod Weights
+pub mod Within
+pub mod Texts

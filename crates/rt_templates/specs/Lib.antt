@@ -1,0 +1,9 @@
+pub mod Lines
+pub mod Layouts
+pub mod Places
+pub mod Operators
+pub mod Ways
+pub mod Calls
+pub mod Templates
+pub mod Expanded
+pub mod Supported

@@ -1,0 +1,4 @@
+pub mod Weighing
+pub mod Marking
+pub mod Standing
+pub mod Filling
