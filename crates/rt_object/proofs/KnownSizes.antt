@@ -96,6 +96,9 @@ module _ (records : List RecordDef) (sizes : List (Option Size)) (h : AreSizes (
   ring_told : (b : Bool) → (size_in sizes k ≡ Some size.TooLarge → ⊥) → (IsTrue b → Contains records k k) × (Contains records k k → IsTrue b) → (IsTrue b → IsBadRecord records k) × (IsBadRecord records k → IsTrue b)
   ring_told b fine g = (λ t. inl (g.0 t), λ bad. g.1 (bad_is_ring fine bad))
 
+  pub fine_alone : is_too_large (size_in sizes k) ≡ false → (Contains records k k → ⊥) → IsBadRecord records k → ⊥
+  fine_alone e alone bad = alone (bad_is_ring (not_large e) bad)
+
   pub bad_told : (r : Result Bool Memory) → is_too_large (size_in sizes k) ≡ false → IfOk r (λ b. (IsTrue b → Contains records k k) × (Contains records k k → IsTrue b)) → IfOk r (λ b. (IsTrue b → IsBadRecord records k) × (IsBadRecord records k → IsTrue b))
   bad_told (Ok b) e g = ring_told b (not_large e) g
   bad_told (Err m) e g = g

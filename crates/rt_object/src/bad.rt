@@ -1,12 +1,13 @@
 //! Records that contain themselves, or are too large.
 
-ghost use Rattle.std.specs.Prelude.{◌≡◌, ◌↔◌, length, replicate, true, IfOk, IsTrue};
+ghost use Rattle.std.specs.Prelude.{◌≡◌, ◌↔◌, Some, length, replicate, slice_get, true, IfOk, IsTrue};
+ghost use Rattle.rt_sizes.specs.Alone.{AreAlone};
 ghost use Rattle.rt_sizes.specs.Capped.{AreSizes, size_in};
 ghost use Rattle.rt_object.specs.Known.{IsFirst, is_too_large};
 ghost use Rattle.rt_object.specs.Ranges.{IsBadRecord, table_of};
 
 use rt_modes::RecordDef;
-use rt_sizes::{Size, contains_itself, record_sizes};
+use rt_sizes::{Size, contains_itself, mark_alone, record_sizes};
 use rt_words::{List, Memory};
 use std::alloc::Global;
 
@@ -15,8 +16,9 @@ pub fn first_bad(alloc: Global, records: &[RecordDef]) -> Result<Option<usize>, 
     ensures { IfOk result (IsFirst records.now) }
 {
     let sizes = sizes_of(alloc, records)?;
+    let alone = mark_alone(alloc, records)?;
     for number in 0..records.len() {
-        if is_bad(alloc, records, sizes.as_slice(), number)? {
+        if is_bad(alloc, records, sizes.as_slice(), alone.as_slice(), number)? {
             return Ok(Some(number));
         }
     }
@@ -41,13 +43,17 @@ fn is_bad(
     alloc: Global,
     records: &[RecordDef],
     sizes: &[Option<Size>],
+    alone: &[bool],
     number: usize,
 ) -> Result<bool, Memory>
-    requires { AreSizes (table_of records.now) sizes.now }
+    requires sizes { AreSizes (table_of records.now) sizes.now }
+    requires alone { AreAlone records.now alone.now }
     ensures { IfOk result (λ b. IsTrue b ↔ IsBadRecord records.now number) }
 {
     if is_too_large(sizes, number) {
         Ok(true)
+    } else if is_marked(alone, number) {
+        Ok(false)
     } else {
         contains_itself(alloc, records, sizes, number)
     }
@@ -59,5 +65,14 @@ fn is_too_large(sizes: &[Option<Size>], number: usize) -> bool
     match sizes.get(number) {
         Some(Some(size)) => !size.is_within(),
         _ => false,
+    }
+}
+
+fn is_marked(marks: &[bool], number: usize) -> bool
+    ensures { IsTrue result ↔ slice_get marks.now number ≡ Some true }
+{
+    match marks.get(number) {
+        Some(mark) => *mark,
+        None => false,
     }
 }
