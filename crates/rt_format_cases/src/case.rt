@@ -1,6 +1,7 @@
 //! One line of the table.
 
 use crate::images::{describe_image, describe_image_cuts};
+use crate::objects::{describe_object, describe_object_cuts};
 use crate::told::bytes_of;
 use rt_words::{Memory, Text};
 use std::alloc::Global;
@@ -37,6 +38,8 @@ fn answer(alloc: Global, format: &str, rest: &str, out: &mut Text) -> Result<(),
     match (format, cuts) {
         ("image", false) => describe_image(alloc, bytes.as_slice(), out),
         ("image", true) => describe_image_cuts(alloc, bytes.as_slice(), out),
+        ("object", false) => describe_object(alloc, bytes.as_slice(), out),
+        ("object", true) => describe_object_cuts(alloc, bytes.as_slice(), out),
         _ => out.push_all(b"no case begins so"),
     }
 }

@@ -1,6 +1,6 @@
 //! Images that are read and written again.
 
-use crate::told::{tell_count, tell_number};
+use crate::told::{tell_count, tell_number, tell_whether_same};
 use rt_image::{Image, ImageFault, ImageParts, ImageTask, read_image, write_image};
 use rt_words::{Memory, Text};
 use std::alloc::Global;
@@ -58,9 +58,5 @@ fn tell_task(task: &ImageTask, out: &mut Text) -> Result<(), Memory> {
 /// Whether the image is written as the bytes that it was read from.
 fn tell_again(alloc: Global, image: &Image, bytes: &[u8], out: &mut Text) -> Result<(), Memory> {
     let again = write_image(alloc, image)?;
-    if again.as_slice() == bytes {
-        out.push_all(b"; written again the same")
-    } else {
-        out.push_all(b"; written again other bytes")
-    }
+    tell_whether_same(again.as_slice(), bytes, out)
 }

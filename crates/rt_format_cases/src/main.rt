@@ -7,10 +7,13 @@
 //! - `image 52544901 ..`: the image that these bytes are, and whether it is written as the same bytes; or the place where
 //!   they are refused.
 //! - `image cuts 52544901 ..`: the places where the fronts of these bytes are refused, from no byte up to all but the last.
+//! - `object 52544f01 ..`, `object cuts 52544f01 ..`: the same of objects; or the version that the bytes name, where it is
+//!   another.
 #![tactic(auto)]
 
 mod case;
 mod images;
+mod objects;
 mod told;
 
 use case::describe;

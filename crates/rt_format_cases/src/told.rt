@@ -58,3 +58,12 @@ pub fn tell_count(what: &str, number: usize, out: &mut Text) -> Result<(), Memor
     out.push_all(what.as_bytes())?;
     tell_number(number, out)
 }
+
+/// Whether what was written again is the bytes that were read.
+pub fn tell_whether_same(again: &[u8], bytes: &[u8], out: &mut Text) -> Result<(), Memory> {
+    if again == bytes {
+        out.push_all(b"; written again the same")
+    } else {
+        out.push_all(b"; written again other bytes")
+    }
+}

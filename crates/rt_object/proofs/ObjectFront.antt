@@ -1,12 +1,11 @@
 -- An object is read back whatever follows it.
-use Rattle.std.proofs.Common.{ℕ, Bool, List, [], ◌∷◌, ◌++◌, length, map, codes}
+use Rattle.std.proofs.Common.{ℕ, Bool, false, List, [], ◌∷◌, ◌++◌, length, map, codes}
 use Rattle.rt_formats.specs.Format.{Format, nothing, byte, word, block, tag, name, where_true, any, within, ◌>>=◌, each, times, passing}
 use Rattle.rt_modes.specs.Spelling.{mode_format}
 use Rattle.rt_formats.specs.Laws.{IsReadBack}
 use Rattle.rt_formats.proofs.Front.{front_nothing, front_byte, front_word, front_block, front_tag, front_name, front_then, front_each, front_times, front_passing}
 use Rattle.rt_object.proofs.ModeFront.{front_mode}
 use Rattle.rt_modes.specs.declared.mode.Field.{Field}
-use Rattle.rt_modes.specs.declared.mode.Mode.{Mode}
 use Rattle.rt_modes.specs.declared.mode.RecordDef.{RecordDef}
 use Rattle.rt_object.specs.declared.object.Brick.{Brick}
 use Rattle.rt_object.specs.declared.object.BrickKind.TheVariants.{Own, Ent, Ext, Svc}
@@ -16,8 +15,16 @@ use Rattle.rt_object.specs.declared.object.Relocated.TheVariants as relocated
 use Rattle.rt_object.specs.declared.object.Relocation.{Relocation}
 use Rattle.rt_object.specs.declared.object.Supplied.TheVariants as supplied
 use Rattle.rt_object.specs.declared.object.Target.TheVariants as target
-use Rattle.rt_object.specs.Grammar.{is_new, is_no_label, is_proc, is_value, size_of, is_within_most, is_size, is_place, is_taken, Kind, IsOwn, IsEnt, IsExt, IsSvc, Sort, OfProc, OfData, OfStack, kind_of, sort_in, Called, ABrick, AMode, AnError, called_of, Named, NamesBrick, NamesString, NamesSupport, named_of, below, may_stand_in}
+use Rattle.rt_object.specs.Grammar.{is_new, is_proc, is_value, size_of, is_within_most, is_size, is_place, is_taken, kind_of, sort_in, called_of, named_of, below, is_rrerr, may_be}
 use Rattle.rt_object.specs.Grammar as spec
+use Rattle.rt_object.specs.declared.tag.Called.{Called}
+use Rattle.rt_object.specs.declared.tag.Kind.{Kind}
+use Rattle.rt_object.specs.declared.tag.Named.{Named}
+use Rattle.rt_object.specs.declared.tag.Sort.{Sort}
+use Rattle.rt_object.specs.declared.tag.Called.TheVariants as callees
+use Rattle.rt_object.specs.declared.tag.Kind.TheVariants as kinds
+use Rattle.rt_object.specs.declared.tag.Named.TheVariants as namings
+use Rattle.rt_object.specs.declared.tag.Sort.TheVariants as sorts
 
 front_made : {A B : Type 0} (P : Format A) (f : A → B) → IsReadBack P → IsReadBack (P >>= (λ x. nothing (f x)))
 front_made P f g = front_then P (λ x. nothing (f x)) g (λ x. front_nothing (f x))
@@ -25,16 +32,16 @@ front_made P f g = front_then P (λ x. nothing (f x)) g (λ x. front_nothing (f 
 front_any : IsReadBack (word any)
 front_any = front_word any
 
-front_field : (records : ℕ) (may_be : Mode → Bool) (before : List Field) → IsReadBack (spec.field_format records may_be before)
-front_field records may_be before = front_then (passing (is_new (map (λ (f : Field). f.name) before)) name) _ (front_passing (is_new (map (λ (f : Field). f.name) before)) name front_name)
-    (λ new. front_made (passing may_be (mode_format records)) (λ mode. record { name = new; mode = mode }) (front_passing may_be (mode_format records) (front_mode records)))
+front_field : (records : ℕ) (labels : Bool) (before : List Field) → IsReadBack (spec.field_format records labels before)
+front_field records labels before = front_then (passing (is_new (map (λ (f : Field). f.name) before)) name) _ (front_passing (is_new (map (λ (f : Field). f.name) before)) name front_name)
+    (λ new. front_made (passing (may_be labels) (mode_format records)) (λ mode. record { name = new; mode = mode }) (front_passing (may_be labels) (mode_format records) (front_mode records)))
 
-front_fields : (records : ℕ) (may_be : Mode → Bool) → IsReadBack (spec.fields_format records may_be)
-front_fields records may_be = front_then (word any) _ front_any (λ count. front_each (spec.field_format records may_be) (front_field records may_be) count [])
+front_fields : (records : ℕ) (labels : Bool) → IsReadBack (spec.fields_format records labels)
+front_fields records labels = front_then (word any) _ front_any (λ count. front_each (spec.field_format records labels) (front_field records labels) count [])
 
 front_record : (records : ℕ) (before : List RecordDef) → IsReadBack (spec.record_format records before)
 front_record records before = front_then (passing (is_new (map (λ (r : RecordDef). r.name) before)) name) _ (front_passing (is_new (map (λ (r : RecordDef). r.name) before)) name front_name)
-    (λ new. front_made (spec.fields_format records is_no_label) (λ fields. record { name = new; fields = fields }) (front_fields records is_no_label))
+    (λ new. front_made (spec.fields_format records false) (λ fields. record { name = new; fields = fields }) (front_fields records false))
 
 front_string : IsReadBack spec.string_format
 front_string = front_then (word (within 0 8191)) block (front_word (within 0 8191)) front_block
@@ -42,14 +49,19 @@ front_string = front_then (word (within 0 8191)) block (front_word (within 0 819
 front_strings : IsReadBack spec.strings_format
 front_strings = front_then (word any) _ front_any (λ count. front_times (spec.string_format) front_string count [])
 
+front_code : IsReadBack spec.code_format
+front_code = front_then (word (within 0 16383)) _ (front_word (within 0 16383))
+    (λ count. front_then (times (word any) count []) _ (front_times (word any) front_any count [])
+    (λ words. front_made (times (byte (within 0 2)) count []) (λ marks. (words, marks)) (front_times (byte (within 0 2)) (front_byte (within 0 2)) count [])))
+
 module _ (records : List RecordDef) (strings bricks : ℕ) where
   front_mode_here : IsReadBack (spec.mode records strings bricks)
   front_mode_here = front_mode (length records)
 
   front_named : (n : Named) → IsReadBack (spec.named_format records strings bricks n)
-  front_named NamesBrick = front_made (word (below bricks)) relocated.Brick (front_word (below bricks))
-  front_named NamesString = front_made (word (below strings)) relocated.String (front_word (below strings))
-  front_named NamesSupport = front_made (word (within 1 32)) relocated.Support (front_word (within 1 32))
+  front_named namings.Brick = front_made (word (below bricks)) relocated.Brick (front_word (below bricks))
+  front_named namings.String = front_made (word (below strings)) relocated.String (front_word (below strings))
+  front_named namings.Support = front_made (word (within 1 32)) relocated.Support (front_word (within 1 32))
 
   front_relocation : (step places : ℕ) (before : List Relocation) → IsReadBack (spec.relocation_format records strings bricks step places before)
   front_relocation step places before = front_then (word (where_true (is_place step places before))) _ (front_word (where_true (is_place step places before)))
@@ -61,9 +73,9 @@ module _ (records : List RecordDef) (strings bricks : ℕ) where
   front_relocations step places = front_then (word any) _ front_any (λ count. front_each (spec.relocation_format records strings bricks step places) (front_relocation step places) count [])
 
   front_called : (c : Called) → IsReadBack (spec.called_format records strings bricks c)
-  front_called ABrick = front_made (word (below bricks)) target.Brick (front_word (below bricks))
-  front_called AMode = front_made (passing is_value (spec.mode records strings bricks)) target.Mode (front_passing is_value (spec.mode records strings bricks) front_mode_here)
-  front_called AnError = front_nothing target.Error
+  front_called callees.Brick = front_made (word (below bricks)) target.Brick (front_word (below bricks))
+  front_called callees.Mode = front_made (passing is_value (spec.mode records strings bricks)) target.Mode (front_passing is_value (spec.mode records strings bricks) front_mode_here)
+  front_called callees.Error = front_nothing target.Error
 
   front_call : IsReadBack (spec.call_format records strings bricks)
   front_call = front_then (word any) _ front_any
@@ -74,48 +86,52 @@ module _ (records : List RecordDef) (strings bricks : ℕ) where
   front_proc_mode : IsReadBack (passing is_proc (spec.mode records strings bricks))
   front_proc_mode = front_passing is_proc (spec.mode records strings bricks) front_mode_here
 
+  front_calls : IsReadBack (spec.calls_format records strings bricks)
+  front_calls = front_then (word any) _ front_any (λ count. front_times (spec.call_format records strings bricks) front_call count [])
+
+  front_body : IsReadBack (spec.body_format records strings bricks)
+  front_body = front_then spec.code_format _ front_code (λ code. front_made (spec.relocations_format records strings bricks 1 (length code.0)) (λ relocations. (code, relocations)) (front_relocations 1 (length code.0)))
+
   front_proc : IsReadBack (spec.proc_format records strings bricks)
   front_proc = front_then (passing is_proc (spec.mode records strings bricks)) _ front_proc_mode
       (λ m. front_then (word any) _ front_any
       (λ items. front_then (word any) _ front_any
       (λ locals. front_then (word any) _ front_any
-      (λ deep. front_then (word any) _ front_any
-      (λ call_count. front_then (times (spec.call_format records strings bricks) call_count []) _ (front_times (spec.call_format records strings bricks) front_call call_count [])
-      (λ calls. front_then (word (within 0 16383)) _ (front_word (within 0 16383))
-      (λ count. front_then (times (word any) count []) _ (front_times (word any) front_any count [])
-      (λ words. front_then (times (byte (within 0 2)) count []) _ (front_times (byte (within 0 2)) (front_byte (within 0 2)) count [])
-      (λ marks. front_made (spec.relocations_format records strings bricks 1 count)
-      (λ relocations. record { mode = m; items = items; locals = locals; deep = deep; calls = calls; words = words; marks = marks; relocations = relocations }) (front_relocations 1 count))))))))))
+      (λ deep. front_then (spec.calls_format records strings bricks) _ front_calls
+      (λ calls. front_made (spec.body_format records strings bricks)
+      (λ body. record { mode = m; items = items; locals = locals; deep = deep; calls = calls; words = body.0.0; marks = body.0.1; relocations = body.1 }) front_body)))))
 
-  front_data_fields : (may_be : Mode → Bool) → IsReadBack (spec.data_fields records strings bricks may_be)
-  front_data_fields may_be = front_passing (λ fields. is_within_most (size_of records fields)) (spec.fields_format (length records) may_be) (front_fields (length records) may_be)
+  front_data_fields : (labels : Bool) → IsReadBack (spec.data_fields records strings bricks labels)
+  front_data_fields labels = front_passing (λ fields. is_within_most (size_of records fields)) (spec.fields_format (length records) labels) (front_fields (length records) labels)
+
+  front_data_bytes : (fields : List Field) → IsReadBack (spec.data_bytes records strings bricks fields)
+  front_data_bytes fields = front_then (word (where_true (is_size (size_of records fields)))) block (front_word (where_true (is_size (size_of records fields)))) front_block
 
   front_data : IsReadBack (spec.data_format records strings bricks)
-  front_data = front_then (spec.data_fields records strings bricks is_no_label) _ (front_data_fields is_no_label)
-      (λ fields. front_then (word (where_true (is_size (size_of records fields)))) _ (front_word (where_true (is_size (size_of records fields))))
-      (λ size. front_then (block size) _ (front_block size)
-      (λ bytes. front_made (spec.relocations_format records strings bricks 2 size) (λ relocations. record { fields = fields; bytes = bytes; relocations = relocations }) (front_relocations 2 size))))
+  front_data = front_then (spec.data_fields records strings bricks false) _ (front_data_fields false)
+      (λ fields. front_then (spec.data_bytes records strings bricks fields) _ (front_data_bytes fields)
+      (λ bytes. front_made (spec.relocations_format records strings bricks 2 (length bytes)) (λ relocations. record { fields = fields; bytes = bytes; relocations = relocations }) (front_relocations 2 (length bytes))))
 
   front_content : (sort : Sort) → IsReadBack (spec.content_format records strings bricks sort)
-  front_content OfProc = front_made (spec.proc_format records strings bricks) content.Proc front_proc
-  front_content OfData = front_made (spec.data_format records strings bricks) content.Data front_data
-  front_content OfStack = front_made (word (within 1 28672)) content.Stack (front_word (within 1 28672))
+  front_content sorts.Proc = front_made (spec.proc_format records strings bricks) content.Proc front_proc
+  front_content sorts.Data = front_made (spec.data_format records strings bricks) content.Data front_data
+  front_content sorts.Stack = front_made (word (within 1 28672)) content.Stack (front_word (within 1 28672))
 
   front_external : (sort : Sort) → IsReadBack (spec.external_format records strings bricks sort)
-  front_external OfProc = front_made (passing is_proc (spec.mode records strings bricks)) external.Proc front_proc_mode
-  front_external OfData = front_made (spec.data_fields records strings bricks is_no_label) external.Data (front_data_fields is_no_label)
-  front_external OfStack = front_nothing external.Stack
+  front_external sorts.Proc = front_made (passing is_proc (spec.mode records strings bricks)) external.Proc front_proc_mode
+  front_external sorts.Data = front_made (spec.data_fields records strings bricks false) external.Data (front_data_fields false)
+  front_external sorts.Stack = front_nothing external.Stack
 
   front_supplied : (n : List ℕ) (sort : Sort) → IsReadBack (spec.supplied_format records strings bricks n sort)
-  front_supplied n OfProc = front_made (passing is_proc (spec.mode records strings bricks)) supplied.Proc front_proc_mode
-  front_supplied n OfData = front_made (spec.data_fields records strings bricks (may_stand_in n)) supplied.Data (front_data_fields (may_stand_in n))
-  front_supplied n OfStack = front_made (spec.data_fields records strings bricks (may_stand_in n)) supplied.Data (front_data_fields (may_stand_in n))
+  front_supplied n sorts.Proc = front_made (passing is_proc (spec.mode records strings bricks)) supplied.Proc front_proc_mode
+  front_supplied n sorts.Data = front_made (spec.data_fields records strings bricks (is_rrerr n)) supplied.Data (front_data_fields (is_rrerr n))
+  front_supplied n sorts.Stack = front_made (spec.data_fields records strings bricks (is_rrerr n)) supplied.Data (front_data_fields (is_rrerr n))
 
   front_kind : (kind : Kind) (sort : Sort) (n : List ℕ) → IsReadBack (spec.kind_format records strings bricks kind sort n)
-  front_kind IsOwn sort n = front_made (spec.content_format records strings bricks sort) Own (front_content sort)
-  front_kind IsEnt sort n = front_made (spec.content_format records strings bricks sort) Ent (front_content sort)
-  front_kind IsExt sort n = front_made (spec.external_format records strings bricks sort) Ext (front_external sort)
-  front_kind IsSvc sort n = front_made (spec.supplied_format records strings bricks n sort) Svc (front_supplied n sort)
+  front_kind kinds.Own sort n = front_made (spec.content_format records strings bricks sort) Own (front_content sort)
+  front_kind kinds.Ent sort n = front_made (spec.content_format records strings bricks sort) Ent (front_content sort)
+  front_kind kinds.Ext sort n = front_made (spec.external_format records strings bricks sort) Ext (front_external sort)
+  front_kind kinds.Svc sort n = front_made (spec.supplied_format records strings bricks n sort) Svc (front_supplied n sort)
 
   front_brick : (before : List Brick) → IsReadBack (spec.brick_format records strings bricks before)
   front_brick before = front_then (byte kind_of) _ (front_byte kind_of)

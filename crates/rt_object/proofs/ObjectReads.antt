@@ -1,5 +1,5 @@
 -- The readers of the parts of an object are right for their formats.
-use Rattle.std.proofs.Common.{ℕ, Bool, List, [], length, map}
+use Rattle.std.proofs.Common.{ℕ, Bool, false, List, [], length, map}
 use Rattle.rt_formats.specs.Format.{Format, where_true, any, within}
 use Rattle.rt_formats.specs.Format as format
 use Rattle.rt_formats.specs.Reading as formats
@@ -7,7 +7,6 @@ use Rattle.rt_formats.proofs.Right.{Right, right_nothing, right_byte, right_word
 use Rattle.rt_modes.proofs.ModeReads.{right_mode}
 use Rattle.rt_modes.specs.Spelling.{mode_format}
 use Rattle.rt_modes.specs.declared.mode.Field.{Field}
-use Rattle.rt_modes.specs.declared.mode.Mode.{Mode}
 use Rattle.rt_modes.specs.declared.mode.RecordDef.{RecordDef}
 use Rattle.rt_object.specs.declared.object.Brick.{Brick}
 use Rattle.rt_object.specs.declared.object.BrickKind.TheVariants.{Own, Ent, Ext, Svc}
@@ -17,9 +16,17 @@ use Rattle.rt_object.specs.declared.object.Relocated.TheVariants as relocated
 use Rattle.rt_object.specs.declared.object.Relocation.{Relocation}
 use Rattle.rt_object.specs.declared.object.Supplied.TheVariants as supplied
 use Rattle.rt_object.specs.declared.object.Target.TheVariants as target
-use Rattle.rt_object.specs.Grammar.{is_new, is_no_label, is_proc, is_value, size_of, is_within_most, is_size, is_place, is_taken, Kind, IsOwn, IsEnt, IsExt, IsSvc, Sort, OfProc, OfData, OfStack, kind_of, sort_in, Called, ABrick, AMode, AnError, called_of, Named, NamesBrick, NamesString, NamesSupport, named_of, below, may_stand_in}
+use Rattle.rt_object.specs.Grammar.{is_new, is_proc, is_value, size_of, is_within_most, is_size, is_place, is_taken, kind_of, sort_in, called_of, named_of, below, is_rrerr, may_be}
 use Rattle.rt_object.specs.Grammar as spec
 use Rattle.rt_object.specs.Reading as reads
+use Rattle.rt_object.specs.declared.tag.Called.{Called}
+use Rattle.rt_object.specs.declared.tag.Kind.{Kind}
+use Rattle.rt_object.specs.declared.tag.Named.{Named}
+use Rattle.rt_object.specs.declared.tag.Sort.{Sort}
+use Rattle.rt_object.specs.declared.tag.Called.TheVariants as callees
+use Rattle.rt_object.specs.declared.tag.Kind.TheVariants as kinds
+use Rattle.rt_object.specs.declared.tag.Named.TheVariants as namings
+use Rattle.rt_object.specs.declared.tag.Sort.TheVariants as sorts
 
 -- a format, of whose meaning a value is made
 right_made : {A B : Type 0} (p : formats.Reader A) (P : Format A) (f : A → B) → Right p P → Right (formats.◌>>=◌ p (λ x. formats.nothing (f x))) (format.◌>>=◌ P (λ x. format.nothing (f x)))
@@ -30,19 +37,19 @@ right_any = right_word any
 
 -- ---- records
 
-right_field : (records : ℕ) (may_be : Mode → Bool) (before : List Field) → Right (reads.field_reader records may_be before) (spec.field_format records may_be before)
+right_field : (records : ℕ) (labels : Bool) (before : List Field) → Right (reads.field_reader records labels before) (spec.field_format records labels before)
 unfolding reads.field_reader
-right_field records may_be before = right_then (formats.passing (is_new (map (λ f. f.name) before)) formats.name) _ (format.passing (is_new (map (λ f. f.name) before)) format.name) _ (right_passing (is_new (map (λ f. f.name) before)) formats.name format.name right_name)
-    (λ new. right_made (formats.passing may_be (reads.mode_in records)) (format.passing may_be (mode_format records)) (λ mode. record { name = new; mode = mode }) (right_passing may_be (reads.mode_in records) (mode_format records) (right_mode records)))
+right_field records labels before = right_then (formats.passing (is_new (map (λ f. f.name) before)) formats.name) _ (format.passing (is_new (map (λ f. f.name) before)) format.name) _ (right_passing (is_new (map (λ f. f.name) before)) formats.name format.name right_name)
+    (λ new. right_made (formats.passing (may_be labels) (reads.mode_in records)) (format.passing (may_be labels) (mode_format records)) (λ mode. record { name = new; mode = mode }) (right_passing (may_be labels) (reads.mode_in records) (mode_format records) (right_mode records)))
 
-right_fields : (records : ℕ) (may_be : Mode → Bool) → Right (reads.fields_reader records may_be) (spec.fields_format records may_be)
+right_fields : (records : ℕ) (labels : Bool) → Right (reads.fields_reader records labels) (spec.fields_format records labels)
 unfolding reads.fields_reader
-right_fields records may_be = right_then (formats.word any) _ (format.word any) _ right_any (λ count. right_each (reads.field_reader records may_be) (spec.field_format records may_be) (right_field records may_be) count [])
+right_fields records labels = right_then (formats.word any) _ (format.word any) _ right_any (λ count. right_each (reads.field_reader records labels) (spec.field_format records labels) (right_field records labels) count [])
 
 pub right_record : (records : ℕ) (before : List RecordDef) → Right (reads.record_reader records before) (spec.record_format records before)
 unfolding reads.record_reader
 right_record records before = right_then (formats.passing (is_new (map (λ r. r.name) before)) formats.name) _ (format.passing (is_new (map (λ r. r.name) before)) format.name) _ (right_passing (is_new (map (λ r. r.name) before)) formats.name format.name right_name)
-    (λ new. right_made (reads.fields_reader records is_no_label) (spec.fields_format records is_no_label) (λ fields. record { name = new; fields = fields }) (right_fields records is_no_label))
+    (λ new. right_made (reads.fields_reader records false) (spec.fields_format records false) (λ fields. record { name = new; fields = fields }) (right_fields records false))
 
 -- ---- strings
 
@@ -54,18 +61,25 @@ pub right_strings : Right reads.strings_reader spec.strings_format
 unfolding reads.strings_reader
 right_strings = right_then (formats.word any) _ (format.word any) _ right_any (λ count. right_times reads.string_reader spec.string_format right_string count [])
 
+-- ---- code
+
+right_code : Right reads.code_reader spec.code_format
+unfolding reads.code_reader reads.code_of
+right_code = right_then (formats.word (within 0 16383)) _ (format.word (within 0 16383)) _ (right_word (within 0 16383))
+    (λ count. right_then (formats.times (formats.word any) count []) _ (format.times (format.word any) count []) _ (right_times (formats.word any) (format.word any) right_any count [])
+    (λ words. right_made (formats.times (formats.byte (within 0 2)) count []) (format.times (format.byte (within 0 2)) count []) (λ marks. (words, marks)) (right_times (formats.byte (within 0 2)) (format.byte (within 0 2)) (right_byte (within 0 2)) count [])))
+
 -- ---- bricks
 
 module _ (records : List RecordDef) (strings bricks : ℕ) where
   right_mode_here : Right (reads.mode records strings bricks) (spec.mode records strings bricks)
-  unfolding reads.mode
   right_mode_here = right_mode (length records)
 
   right_named : (n : Named) → Right (reads.named_reader records strings bricks n) (spec.named_format records strings bricks n)
   unfolding reads.named_reader
-  right_named NamesBrick = right_made (formats.word (below bricks)) (format.word (below bricks)) relocated.Brick (right_word (below bricks))
-  right_named NamesString = right_made (formats.word (below strings)) (format.word (below strings)) relocated.String (right_word (below strings))
-  right_named NamesSupport = right_made (formats.word (within 1 32)) (format.word (within 1 32)) relocated.Support (right_word (within 1 32))
+  right_named namings.Brick = right_made (formats.word (below bricks)) (format.word (below bricks)) relocated.Brick (right_word (below bricks))
+  right_named namings.String = right_made (formats.word (below strings)) (format.word (below strings)) relocated.String (right_word (below strings))
+  right_named namings.Support = right_made (formats.word (within 1 32)) (format.word (within 1 32)) relocated.Support (right_word (within 1 32))
 
   right_relocation : (step places : ℕ) (before : List Relocation) → Right (reads.relocation_reader records strings bricks step places before) (spec.relocation_format records strings bricks step places before)
   unfolding reads.relocation_reader
@@ -81,9 +95,9 @@ module _ (records : List RecordDef) (strings bricks : ℕ) where
 
   right_called : (k : Called) → Right (reads.called_reader records strings bricks k) (spec.called_format records strings bricks k)
   unfolding reads.called_reader
-  right_called ABrick = right_made (formats.word (below bricks)) (format.word (below bricks)) target.Brick (right_word (below bricks))
-  right_called AMode = right_made (formats.passing is_value (reads.mode records strings bricks)) (format.passing is_value (spec.mode records strings bricks)) target.Mode (right_passing is_value (reads.mode records strings bricks) (spec.mode records strings bricks) right_mode_here)
-  right_called AnError = right_nothing target.Error
+  right_called callees.Brick = right_made (formats.word (below bricks)) (format.word (below bricks)) target.Brick (right_word (below bricks))
+  right_called callees.Mode = right_made (formats.passing is_value (reads.mode records strings bricks)) (format.passing is_value (spec.mode records strings bricks)) target.Mode (right_passing is_value (reads.mode records strings bricks) (spec.mode records strings bricks) right_mode_here)
+  right_called callees.Error = right_nothing target.Error
 
   right_call : Right (reads.call_reader records strings bricks) (spec.call_format records strings bricks)
   unfolding reads.call_reader
@@ -95,58 +109,66 @@ module _ (records : List RecordDef) (strings bricks : ℕ) where
   right_proc_mode : Right (formats.passing is_proc (reads.mode records strings bricks)) (format.passing is_proc (spec.mode records strings bricks))
   right_proc_mode = right_passing is_proc (reads.mode records strings bricks) (spec.mode records strings bricks) right_mode_here
 
+  right_calls : Right (reads.calls_reader records strings bricks) (spec.calls_format records strings bricks)
+  unfolding reads.calls_reader
+  right_calls = right_then (formats.word any) _ (format.word any) _ right_any (λ count. right_times (reads.call_reader records strings bricks) (spec.call_format records strings bricks) right_call count [])
+
+  right_body : Right (reads.body_reader records strings bricks) (spec.body_format records strings bricks)
+  unfolding reads.body_reader
+  right_body = right_then reads.code_reader _ spec.code_format _ right_code
+      (λ code. right_made (reads.relocations_reader records strings bricks 1 (length code.0)) (spec.relocations_format records strings bricks 1 (length code.0)) (λ relocations. (code, relocations)) (right_relocations 1 (length code.0)))
+
   right_proc : Right (reads.proc_reader records strings bricks) (spec.proc_format records strings bricks)
   unfolding reads.proc_reader
   right_proc = right_then (formats.passing is_proc (reads.mode records strings bricks)) _ (format.passing is_proc (spec.mode records strings bricks)) _ right_proc_mode
       (λ m. right_then (formats.word any) _ (format.word any) _ right_any
       (λ items. right_then (formats.word any) _ (format.word any) _ right_any
       (λ locals. right_then (formats.word any) _ (format.word any) _ right_any
-      (λ deep. right_then (formats.word any) _ (format.word any) _ right_any
-      (λ call_count. right_then (formats.times (reads.call_reader records strings bricks) call_count []) _ (format.times (spec.call_format records strings bricks) call_count []) _ (right_times (reads.call_reader records strings bricks) (spec.call_format records strings bricks) right_call call_count [])
-      (λ calls. right_then (formats.word (within 0 16383)) _ (format.word (within 0 16383)) _ (right_word (within 0 16383))
-      (λ count. right_then (formats.times (formats.word any) count []) _ (format.times (format.word any) count []) _ (right_times (formats.word any) (format.word any) right_any count [])
-      (λ words. right_then (formats.times (formats.byte (within 0 2)) count []) _ (format.times (format.byte (within 0 2)) count []) _ (right_times (formats.byte (within 0 2)) (format.byte (within 0 2)) (right_byte (within 0 2)) count [])
-      (λ marks. right_made (reads.relocations_reader records strings bricks 1 count) (spec.relocations_format records strings bricks 1 count)
-      (λ relocations. record { mode = m; items = items; locals = locals; deep = deep; calls = calls; words = words; marks = marks; relocations = relocations }) (right_relocations 1 count))))))))))
+      (λ deep. right_then (reads.calls_reader records strings bricks) _ (spec.calls_format records strings bricks) _ right_calls
+      (λ calls. right_made (reads.body_reader records strings bricks) (spec.body_format records strings bricks)
+      (λ body. record { mode = m; items = items; locals = locals; deep = deep; calls = calls; words = body.0.0; marks = body.0.1; relocations = body.1 }) right_body)))))
 
-  right_data_fields : (may_be : Mode → Bool) → Right (reads.data_fields records strings bricks may_be) (spec.data_fields records strings bricks may_be)
+  right_data_fields : (labels : Bool) → Right (reads.data_fields records strings bricks labels) (spec.data_fields records strings bricks labels)
   unfolding reads.data_fields
-  right_data_fields may_be = right_passing (λ fields. is_within_most (size_of records fields)) (reads.fields_reader (length records) may_be) (spec.fields_format (length records) may_be) (right_fields (length records) may_be)
+  right_data_fields labels = right_passing (λ fields. is_within_most (size_of records fields)) (reads.fields_reader (length records) labels) (spec.fields_format (length records) labels) (right_fields (length records) labels)
+
+  right_data_bytes : (fields : List Field) → Right (reads.data_bytes records strings bricks fields) (spec.data_bytes records strings bricks fields)
+  unfolding reads.data_bytes
+  right_data_bytes fields = right_then (formats.word (where_true (is_size (size_of records fields)))) formats.block (format.word (where_true (is_size (size_of records fields)))) format.block (right_word (where_true (is_size (size_of records fields)))) right_block
 
   right_data : Right (reads.data_reader records strings bricks) (spec.data_format records strings bricks)
   unfolding reads.data_reader
-  right_data = right_then (reads.data_fields records strings bricks is_no_label) _ (spec.data_fields records strings bricks is_no_label) _ (right_data_fields is_no_label)
-      (λ fields. right_then (formats.word (where_true (is_size (size_of records fields)))) _ (format.word (where_true (is_size (size_of records fields)))) _ (right_word (where_true (is_size (size_of records fields))))
-      (λ size. right_then (formats.block size) _ (format.block size) _ (right_block size)
-      (λ bytes. right_made (reads.relocations_reader records strings bricks 2 size) (spec.relocations_format records strings bricks 2 size) (λ relocations. record { fields = fields; bytes = bytes; relocations = relocations }) (right_relocations 2 size))))
+  right_data = right_then (reads.data_fields records strings bricks false) _ (spec.data_fields records strings bricks false) _ (right_data_fields false)
+      (λ fields. right_then (reads.data_bytes records strings bricks fields) _ (spec.data_bytes records strings bricks fields) _ (right_data_bytes fields)
+      (λ bytes. right_made (reads.relocations_reader records strings bricks 2 (length bytes)) (spec.relocations_format records strings bricks 2 (length bytes)) (λ relocations. record { fields = fields; bytes = bytes; relocations = relocations }) (right_relocations 2 (length bytes))))
 
   right_content : (sort : Sort) → Right (reads.content_reader records strings bricks sort) (spec.content_format records strings bricks sort)
   unfolding reads.content_reader
-  right_content OfProc = right_made (reads.proc_reader records strings bricks) (spec.proc_format records strings bricks) content.Proc right_proc
-  right_content OfData = right_made (reads.data_reader records strings bricks) (spec.data_format records strings bricks) content.Data right_data
-  right_content OfStack = right_made (formats.word (within 1 28672)) (format.word (within 1 28672)) content.Stack (right_word (within 1 28672))
+  right_content sorts.Proc = right_made (reads.proc_reader records strings bricks) (spec.proc_format records strings bricks) content.Proc right_proc
+  right_content sorts.Data = right_made (reads.data_reader records strings bricks) (spec.data_format records strings bricks) content.Data right_data
+  right_content sorts.Stack = right_made (formats.word (within 1 28672)) (format.word (within 1 28672)) content.Stack (right_word (within 1 28672))
 
   right_external : (sort : Sort) → Right (reads.external_reader records strings bricks sort) (spec.external_format records strings bricks sort)
   unfolding reads.external_reader
-  right_external OfProc = right_made (formats.passing is_proc (reads.mode records strings bricks)) (format.passing is_proc (spec.mode records strings bricks)) external.Proc right_proc_mode
-  right_external OfData = right_made (reads.data_fields records strings bricks is_no_label) (spec.data_fields records strings bricks is_no_label) external.Data (right_data_fields is_no_label)
-  right_external OfStack = right_nothing external.Stack
+  right_external sorts.Proc = right_made (formats.passing is_proc (reads.mode records strings bricks)) (format.passing is_proc (spec.mode records strings bricks)) external.Proc right_proc_mode
+  right_external sorts.Data = right_made (reads.data_fields records strings bricks false) (spec.data_fields records strings bricks false) external.Data (right_data_fields false)
+  right_external sorts.Stack = right_nothing external.Stack
 
-  right_supplied_data : (n : List ℕ) → Right (formats.◌>>=◌ (reads.data_fields records strings bricks (may_stand_in n)) (λ x. formats.nothing (supplied.Data x))) (format.◌>>=◌ (spec.data_fields records strings bricks (may_stand_in n)) (λ x. format.nothing (supplied.Data x)))
-  right_supplied_data n = right_made (reads.data_fields records strings bricks (may_stand_in n)) (spec.data_fields records strings bricks (may_stand_in n)) supplied.Data (right_data_fields (may_stand_in n))
+  right_supplied_data : (n : List ℕ) → Right (formats.◌>>=◌ (reads.data_fields records strings bricks (is_rrerr n)) (λ x. formats.nothing (supplied.Data x))) (format.◌>>=◌ (spec.data_fields records strings bricks (is_rrerr n)) (λ x. format.nothing (supplied.Data x)))
+  right_supplied_data n = right_made (reads.data_fields records strings bricks (is_rrerr n)) (spec.data_fields records strings bricks (is_rrerr n)) supplied.Data (right_data_fields (is_rrerr n))
 
   right_supplied : (n : List ℕ) (sort : Sort) → Right (reads.supplied_reader records strings bricks n sort) (spec.supplied_format records strings bricks n sort)
   unfolding reads.supplied_reader
-  right_supplied n OfProc = right_made (formats.passing is_proc (reads.mode records strings bricks)) (format.passing is_proc (spec.mode records strings bricks)) supplied.Proc right_proc_mode
-  right_supplied n OfData = right_supplied_data n
-  right_supplied n OfStack = right_supplied_data n
+  right_supplied n sorts.Proc = right_made (formats.passing is_proc (reads.mode records strings bricks)) (format.passing is_proc (spec.mode records strings bricks)) supplied.Proc right_proc_mode
+  right_supplied n sorts.Data = right_supplied_data n
+  right_supplied n sorts.Stack = right_supplied_data n
 
   right_kind : (kind : Kind) (sort : Sort) (n : List ℕ) → Right (reads.kind_reader records strings bricks kind sort n) (spec.kind_format records strings bricks kind sort n)
   unfolding reads.kind_reader
-  right_kind IsOwn sort n = right_made (reads.content_reader records strings bricks sort) (spec.content_format records strings bricks sort) Own (right_content sort)
-  right_kind IsEnt sort n = right_made (reads.content_reader records strings bricks sort) (spec.content_format records strings bricks sort) Ent (right_content sort)
-  right_kind IsExt sort n = right_made (reads.external_reader records strings bricks sort) (spec.external_format records strings bricks sort) Ext (right_external sort)
-  right_kind IsSvc sort n = right_made (reads.supplied_reader records strings bricks n sort) (spec.supplied_format records strings bricks n sort) Svc (right_supplied n sort)
+  right_kind kinds.Own sort n = right_made (reads.content_reader records strings bricks sort) (spec.content_format records strings bricks sort) Own (right_content sort)
+  right_kind kinds.Ent sort n = right_made (reads.content_reader records strings bricks sort) (spec.content_format records strings bricks sort) Ent (right_content sort)
+  right_kind kinds.Ext sort n = right_made (reads.external_reader records strings bricks sort) (spec.external_format records strings bricks sort) Ext (right_external sort)
+  right_kind kinds.Svc sort n = right_made (reads.supplied_reader records strings bricks n sort) (spec.supplied_format records strings bricks n sort) Svc (right_supplied n sort)
 
   right_brick : (before : List Brick) → Right (reads.brick_reader records strings bricks before) (spec.brick_format records strings bricks before)
   unfolding reads.brick_reader
@@ -160,6 +182,6 @@ unfolding reads.bricks_reader
 right_bricks records strings = right_then (formats.word any) _ (format.word any) _ right_any (λ count. right_each (reads.brick_reader records strings count) (spec.brick_format records strings count) (right_brick records strings count) count [])
 
 pub right_taken : (bricks : List Brick) → Right (reads.taken_reader bricks) (spec.taken_format bricks)
-unfolding reads.taken_reader
+unfolding reads.taken_reader reads.taken_number
 right_taken bricks = right_then (formats.word any) _ (format.word any) _ right_any
     (λ count. right_each (λ before. formats.word (where_true (is_taken bricks before))) (λ before. format.word (where_true (is_taken bricks before))) (λ before. right_word (where_true (is_taken bricks before))) count [])

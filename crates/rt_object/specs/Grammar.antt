@@ -9,6 +9,8 @@ use Rattle.rt_modes.specs.declared.mode.Mode.{Mode, out-Mode}
 use Rattle.rt_modes.specs.declared.mode.Mode.TheOpen.{Mode-F}
 use Rattle.rt_modes.specs.declared.mode.RecordDef.{RecordDef}
 use Rattle.rt_sizes.specs.Sizes as sizes
+use Rattle.rt_object.specs.declared.fault.ObjectFault.{ObjectFault}
+use Rattle.rt_object.specs.declared.fault.ObjectFault.TheVariants as fault
 use Rattle.rt_object.specs.declared.object.Brick.{Brick}
 use Rattle.rt_object.specs.declared.object.BrickKind.{BrickKind}
 use Rattle.rt_object.specs.declared.object.BrickKind.TheVariants.{Own, Ent, Ext, Svc}
@@ -28,6 +30,14 @@ use Rattle.rt_object.specs.declared.object.Supplied.TheVariants as supplied
 use Rattle.rt_object.specs.declared.object.Target.{Target}
 use Rattle.rt_object.specs.declared.object.Target.TheVariants as target
 use Rattle.rt_object.specs.Ranges.{IsByte, table_of, IsBadRecord, rrerr}
+use Rattle.rt_object.specs.declared.tag.Called.{Called}
+use Rattle.rt_object.specs.declared.tag.Kind.{Kind}
+use Rattle.rt_object.specs.declared.tag.Named.{Named}
+use Rattle.rt_object.specs.declared.tag.Sort.{Sort}
+use Rattle.rt_object.specs.declared.tag.Called.TheVariants as callees
+use Rattle.rt_object.specs.declared.tag.Kind.TheVariants as kinds
+use Rattle.rt_object.specs.declared.tag.Named.TheVariants as namings
+use Rattle.rt_object.specs.declared.tag.Sort.TheVariants as sorts
 
 -- ---- tests of what is read
 
@@ -42,9 +52,13 @@ is_no_label_layer _ = true
 abbrev pub is_no_label : Mode → Bool
 is_no_label m = is_no_label_layer (out-Mode m)
 
--- a label may stand in the data brick RRERR
-abbrev pub may_stand_in : List ℕ → Mode → Bool
-may_stand_in n m = if bytes_eq n rrerr then true else is_no_label m
+-- whether a mode may be that of a field: a label only where labels may stand
+abbrev pub may_be : Bool → Mode → Bool
+may_be labels m = if labels then true else is_no_label m
+
+-- labels stand in the supplied data brick RRERR
+abbrev pub is_rrerr : List ℕ → Bool
+is_rrerr n = bytes_eq n rrerr
 
 abbrev pub is_proc_layer : Mode-F Mode → Bool
 is_proc_layer (Mode-F.Proc ps r) = true
@@ -82,9 +96,13 @@ is_behind (r ∷ rs) place = nat_lt r.place place && is_behind rs place
 abbrev pub is_place : ℕ → ℕ → List Relocation → ℕ → Bool
 is_place step places before place = is_behind before place && (place % step == 0 && nat_lt place places)
 
+abbrev pub is_proc_content : Content → Bool
+is_proc_content (content.Proc p) = true
+is_proc_content _ = false
+
 abbrev pub is_proc_kind : BrickKind → Bool
-is_proc_kind (Own (content.Proc p)) = true
-is_proc_kind (Ent (content.Proc p)) = true
+is_proc_kind (Own c) = is_proc_content c
+is_proc_kind (Ent c) = is_proc_content c
 is_proc_kind (Ext (external.Proc m)) = true
 is_proc_kind (Svc (supplied.Proc m)) = true
 is_proc_kind _ = false
@@ -99,43 +117,22 @@ is_taken bricks before k = not (list_any (λ m. nat_le k m) before) && is_proc_a
 
 -- ---- kinds and sorts
 
-pub data Kind : Type 0 where
-  IsOwn : Kind
-  IsEnt : Kind
-  IsExt : Kind
-  IsSvc : Kind
-
-pub data Sort : Type 0 where
-  OfProc : Sort
-  OfData : Sort
-  OfStack : Sort
-
 abbrev pub kind_of : ℕ → Option Kind
-kind_of b = if b == 1 then Some IsOwn else (if b == 2 then Some IsEnt else (if b == 3 then Some IsExt else (if b == 4 then Some IsSvc else None)))
+kind_of b = if b == 1 then Some kinds.Own else (if b == 2 then Some kinds.Ent else (if b == 3 then Some kinds.Ext else (if b == 4 then Some kinds.Svc else None)))
 
 abbrev pub sort_of : ℕ → Option Sort
-sort_of b = if b == 1 then Some OfProc else (if b == 2 then Some OfData else (if b == 3 then Some OfStack else None))
+sort_of b = if b == 1 then Some sorts.Proc else (if b == 2 then Some sorts.Data else (if b == 3 then Some sorts.Stack else None))
 
 -- no stack is the supervisor's
 abbrev pub sort_in : Kind → ℕ → Option Sort
-sort_in IsSvc b = if b == 3 then None else sort_of b
+sort_in kinds.Svc b = if b == 3 then None else sort_of b
 sort_in _ b = sort_of b
 
-pub data Called : Type 0 where
-  ABrick : Called
-  AMode : Called
-  AnError : Called
-
 abbrev pub called_of : ℕ → Option Called
-called_of b = if b == 1 then Some ABrick else (if b == 2 then Some AMode else (if b == 3 then Some AnError else None))
-
-pub data Named : Type 0 where
-  NamesBrick : Named
-  NamesString : Named
-  NamesSupport : Named
+called_of b = if b == 1 then Some callees.Brick else (if b == 2 then Some callees.Mode else (if b == 3 then Some callees.Error else None))
 
 abbrev pub named_of : ℕ → Option Named
-named_of b = if b == 1 then Some NamesBrick else (if b == 2 then Some NamesString else (if b == 3 then Some NamesSupport else None))
+named_of b = if b == 1 then Some namings.Brick else (if b == 2 then Some namings.String else (if b == 3 then Some namings.Support else None))
 
 abbrev pub below : ℕ → ℕ → Option ℕ
 below count = where_true (λ k. nat_lt k count)
@@ -143,22 +140,22 @@ below count = where_true (λ k. nat_lt k count)
 -- ---- records
 
 -- the name of a field and its mode, behind other fields, over so many records
-abbrev pub field_format : ℕ → (Mode → Bool) → List Field → Format Field
-field_format records may_be before = do
+abbrev pub field_format : ℕ → Bool → List Field → Format Field
+field_format records labels before = do
   new ← passing (is_new (map (λ f. f.name) before)) name
-  mode ← passing may_be (mode_format records)
+  mode ← passing (may_be labels) (mode_format records)
   nothing (record { name = new; mode = mode })
 
 -- fields = word {name mode}
-abbrev pub fields_format : ℕ → (Mode → Bool) → Format (List Field)
-fields_format records may_be = do
+abbrev pub fields_format : ℕ → Bool → Format (List Field)
+fields_format records labels = do
   count ← word any
-  each (field_format records may_be) count []
+  each (field_format records labels) count []
 
 abbrev pub record_format : ℕ → List RecordDef → Format RecordDef
 record_format records before = do
   new ← passing (is_new (map (λ r. r.name) before)) name
-  fields ← fields_format records is_no_label
+  fields ← fields_format records false
   nothing (record { name = new; fields = fields })
 
 -- record k is bad, and none before it is
@@ -200,6 +197,16 @@ strings_format = do
   count ← word any
   times string_format count []
 
+-- ---- code
+
+-- code = word {word} then one mark byte per word
+abbrev pub code_format : Format (List ℕ × List ℕ)
+code_format = do
+  count ← word (within 0 16383)
+  words ← times (word any) count []
+  marks ← times (byte (within 0 2)) count []
+  nothing (words, marks)
+
 -- ---- bricks, where there are these records, so many strings and so many bricks
 
 module _ (records : List RecordDef) (strings bricks : ℕ) where
@@ -207,13 +214,13 @@ module _ (records : List RecordDef) (strings bricks : ℕ) where
   mode = mode_format (length records)
 
   abbrev pub named_format : Named → Format Relocated
-  named_format NamesBrick = do
+  named_format namings.Brick = do
     k ← word (below bricks)
     nothing (relocated.Brick k)
-  named_format NamesString = do
+  named_format namings.String = do
     k ← word (below strings)
     nothing (relocated.String k)
-  named_format NamesSupport = do
+  named_format namings.Support = do
     k ← word (within 1 32)
     nothing (relocated.Support k)
 
@@ -232,15 +239,15 @@ module _ (records : List RecordDef) (strings bricks : ℕ) where
     each (relocation_format step places) count []
 
   abbrev pub called_format : Called → Format Target
-  called_format ABrick = do
+  called_format callees.Brick = do
     k ← word (below bricks)
     nothing (target.Brick k)
-  called_format AMode = do
+  called_format callees.Mode = do
     m ← passing is_value mode
     nothing (target.Mode m)
-  called_format AnError = nothing target.Error
+  called_format callees.Error = nothing target.Error
 
-  -- calls = word {depth, args (words), target}
+  -- {depth, args (words), target}, so many times as the calls' word says
   abbrev pub call_format : Format Call
   call_format = do
     depth ← word any
@@ -249,6 +256,17 @@ module _ (records : List RecordDef) (strings bricks : ℕ) where
     target ← called_format called
     nothing (record { depth = depth; args = args; target = target })
 
+  abbrev pub calls_format : Format (List Call)
+  calls_format = do
+    count ← word any
+    times call_format count []
+
+  abbrev pub body_format : Format ((List ℕ × List ℕ) × List Relocation)
+  body_format = do
+    code ← code_format
+    relocations ← relocations_format 1 (length code.0)
+    nothing (code, relocations)
+
   -- PROC: mode, items, locals, deep (words), calls, code, relocs
   abbrev pub proc_format : Format ProcContent
   proc_format = do
@@ -256,66 +274,67 @@ module _ (records : List RecordDef) (strings bricks : ℕ) where
     items ← word any
     locals ← word any
     deep ← word any
-    call_count ← word any
-    calls ← times call_format call_count []
-    count ← word (within 0 16383)
-    words ← times (word any) count []
-    marks ← times (byte (within 0 2)) count []
-    relocations ← relocations_format 1 count
-    nothing (record { mode = m; items = items; locals = locals; deep = deep; calls = calls; words = words; marks = marks; relocations = relocations })
+    calls ← calls_format
+    body ← body_format
+    nothing (record { mode = m; items = items; locals = locals; deep = deep; calls = calls; words = body.0.0; marks = body.0.1; relocations = body.1 })
 
   -- the fields of a data brick, which is refused at their count where they have too many bytes
-  abbrev pub data_fields : (Mode → Bool) → Format (List Field)
-  data_fields may_be = passing (λ fields. is_within_most (size_of records fields)) (fields_format (length records) may_be)
+  abbrev pub data_fields : Bool → Format (List Field)
+  data_fields labels = passing (λ fields. is_within_most (size_of records fields)) (fields_format (length records) labels)
+
+  -- so many bytes as the fields have
+  abbrev pub data_bytes : List Field → Format (List ℕ)
+  data_bytes fields = do
+    size ← word (where_true (is_size (size_of records fields)))
+    block size
 
   -- DATA: fields, word, bytes, relocs
   abbrev pub data_format : Format DataContent
   data_format = do
-    fields ← data_fields is_no_label
-    size ← word (where_true (is_size (size_of records fields)))
-    bytes ← block size
-    relocations ← relocations_format 2 size
+    fields ← data_fields false
+    bytes ← data_bytes fields
+    relocations ← relocations_format 2 (length bytes)
     nothing (record { fields = fields; bytes = bytes; relocations = relocations })
 
   abbrev pub content_format : Sort → Format Content
-  content_format OfProc = do
+  content_format sorts.Proc = do
     p ← proc_format
     nothing (content.Proc p)
-  content_format OfData = do
+  content_format sorts.Data = do
     d ← data_format
     nothing (content.Data d)
-  content_format OfStack = do
+  content_format sorts.Stack = do
     n ← word (within 1 28672)
     nothing (content.Stack n)
 
   abbrev pub external_format : Sort → Format External
-  external_format OfProc = do
+  external_format sorts.Proc = do
     m ← passing is_proc mode
     nothing (external.Proc m)
-  external_format OfData = do
-    fields ← data_fields is_no_label
+  external_format sorts.Data = do
+    fields ← data_fields false
     nothing (external.Data fields)
-  external_format OfStack = nothing external.Stack
+  external_format sorts.Stack = nothing external.Stack
 
   abbrev pub supplied_format : List ℕ → Sort → Format Supplied
-  supplied_format n OfProc = do
+  supplied_format n sorts.Proc = do
     m ← passing is_proc mode
     nothing (supplied.Proc m)
   supplied_format n _ = do
-    fields ← data_fields (may_stand_in n)
+    fields ← data_fields (is_rrerr n)
     nothing (supplied.Data fields)
 
   abbrev pub kind_format : Kind → Sort → List ℕ → Format BrickKind
-  kind_format IsOwn sort n = do
+  kind_format kinds.Own sort n = do
     c ← content_format sort
     nothing (Own c)
-  kind_format IsEnt sort n = do
+  kind_format kinds.Ent sort n = do
     c ← content_format sort
     nothing (Ent c)
-  kind_format IsExt sort n = do
+  kind_format kinds.Ext sort n = do
     e ← external_format sort
     nothing (Ext e)
-  kind_format IsSvc sort n = do
+  kind_format kinds.Svc sort n = do
     s ← supplied_format n sort
     nothing (Svc s)
 
@@ -368,3 +387,9 @@ IsOfVersion bytes version = (rest : List ℕ) × (bytes ≡ codes "RTO" ++ versi
 pub record IsNoObject (bytes : List ℕ) (p : ℕ) : Type 0 where
   pub refused : AreRefusedAt object_format bytes p
   pub version : (found : ℕ) → IsOfVersion bytes found → ⊥
+
+-- a fault of a read: want of memory, the place of the field refused, or the other version that is named
+abbrev pub Faults : List ℕ → ObjectFault → Type 0
+Faults bytes fault.Memory = Unit {0}
+Faults bytes (fault.BadObject p) = IsNoObject bytes p
+Faults bytes (fault.Version found) = IsOfVersion bytes found

@@ -76,6 +76,12 @@ IsValueMode m = IsValueLayer (out-Mode m)
 abbrev pub field_names : List Field → List (List ℕ)
 field_names = map (λ f. f.name)
 
+abbrev pub record_names : List RecordDef → List (List ℕ)
+record_names = map (λ r. r.name)
+
+abbrev pub brick_names : List Brick → List (List ℕ)
+brick_names = map (λ b. b.name)
+
 -- Fields over so many records. Labels stand where they may.
 pub record HaveFieldRanges (records : ℕ) (MayBe : Mode → Type 0) (fields : List Field) : Type 0 where
   pub count : IsCounted fields
@@ -101,7 +107,7 @@ IsBadRecord records k = Contains records k k ⊎ ((n : ℕ) × RecordHasSize (ta
 
 pub record HaveRecordRanges (records : List RecordDef) : Type 0 where
   pub count : IsCounted records
-  pub names : AreDifferent (map (λ r. r.name) records)
+  pub names : AreDifferent (record_names records)
   pub each : AllByRecursion (HasRecordRanges (length records)) records
   pub none_bad : (k : ℕ) → k < length records → IsBadRecord records k → ⊥
 
@@ -213,7 +219,7 @@ pub record HasObjectRanges (o : ObjectParts) : Type 0 where
   pub strings : IsCounted o.strings
   pub each_string : AllByRecursion (λ s. (length s ≤ 8191) × AllByRecursion IsByte s) o.strings
   pub bricks : IsCounted o.bricks
-  pub brick_names : AreDifferent (map (λ b. b.name) o.bricks)
+  pub brick_names : AreDifferent (brick_names o.bricks)
   pub each_brick : AllByRecursion (HasBrickRanges o.records.records (length o.strings) (length o.bricks)) o.bricks
   pub taken : IsCounted o.taken
   pub taken_rise : Rise o.taken

@@ -1,7 +1,11 @@
 //! Objects and their bricks.
 
+ghost use Rattle.std.specs.Prelude.{◌≡◌};
+ghost use Rattle.rt_object.specs.Ranges.{HasObjectRanges};
+
 use rt_modes::{Field, Mode, ModeTable};
 use rt_words::{Bytes, List, Name};
+use std::marker::Model;
 
 /// The parts of an object: what is compiled of a module.
 #[derive(Debug, Drop)]
@@ -15,6 +19,45 @@ pub struct ObjectParts {
     pub bricks: List<Brick>,
     /// The numbers of the procedures that stand as values, rising.
     pub taken: List<u16>,
+}
+
+/// An object, whose parts keep their ranges at every moment. Contracts see its parts.
+#[derive(Debug, Drop)]
+pub struct Object {
+    parts: ObjectParts,
+}
+
+impl Model for Object {
+    ghost use Rattle.std.specs.Coded.{codes};
+    ghost use Rattle.rt_modes.specs.contracts.mode.Mode as modes;
+    ghost use Rattle.rt_object.specs.declared.object.ObjectParts.{ObjectParts};
+    ghost use Rattle.rt_object.specs.Ranges.{HasObjectRanges};
+
+    ghost Value = { ObjectParts };
+
+    ghost coded = { Prim.hlevel (codes, modes.the_row.coded) };
+
+    ghost view = { λ o. o.parts };
+
+    ghost invariant = { λ o. HasObjectRanges o.parts };
+}
+
+impl Object {
+    /// The object of these parts.
+    pub fn new(parts: ObjectParts) -> Object
+        requires { HasObjectRanges parts }
+        ensures { result ≡ parts }
+    {
+        Object { parts }
+    }
+
+    /// Lends the parts.
+    pub fn parts(&self) -> &ObjectParts
+        ensures parts { result.now ≡ self.now }
+        ensures ranges { HasObjectRanges self.now }
+    {
+        &self.parts
+    }
 }
 
 /// A brick.

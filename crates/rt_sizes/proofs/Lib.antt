@@ -3,3 +3,4 @@ pub mod Kept
 pub mod Settling
 pub mod Reaching
 pub mod Rings
+pub mod Told

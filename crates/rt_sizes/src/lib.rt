@@ -6,13 +6,16 @@
 //! `specs/Capped.antt` has what is kept of a size: the number of bytes up to 57,344, or that it is larger.
 #![tactic(auto)]
 
+mod alone;
 mod contain;
 mod fields;
 mod order;
 mod settle;
 mod size;
 mod value;
+mod walk;
 
+pub use alone::mark_alone;
 pub use contain::contains_itself;
 pub use fields::{data_size, field_offset, passing_field};
 pub use settle::record_sizes;

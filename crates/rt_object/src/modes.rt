@@ -1,0 +1,90 @@
+//! Modes in front of bytes.
+
+ghost use Rattle.std.specs.Prelude.{◌≡◌};
+ghost use Rattle.rt_formats.specs.Reading as formats;
+ghost use Rattle.rt_formats.specs.Reading.{Gives};
+ghost use Rattle.rt_object.specs.Grammar.{is_no_label, is_proc, is_value, may_be};
+ghost use Rattle.rt_object.specs.Reading as reads;
+
+use rt_formats::Stop;
+use rt_modes::{Mode, ModeFault, read_mode};
+use std::alloc::Global;
+
+/// A mode over so many records.
+fn read_front_mode(alloc: Global, records: u16, bytes: &[u8]) -> Result<(Mode, &[u8]), Stop>
+    ensures { Gives (λ x. (x.0, x.1.now)) result (reads.mode_in records bytes.now) }
+{
+    match read_mode(alloc, bytes, 0, records) {
+        Ok((mode, end)) => Ok((mode, &bytes[end..])),
+        Err(ModeFault::BadMode { at }) => Err(Stop::Refused(bytes.len() - at)),
+        Err(ModeFault::Memory) => Err(Stop::Memory),
+    }
+}
+
+/// The mode of a field: a label only where labels may stand.
+pub fn read_field_mode(
+    alloc: Global,
+    records: u16,
+    labels: bool,
+    bytes: &[u8],
+) -> Result<(Mode, &[u8]), Stop>
+    ensures { Gives (λ x. (x.0, x.1.now)) result (formats.passing (may_be labels) (reads.mode_in records) bytes.now) }
+{
+    let (mode, rest) = read_front_mode(alloc, records, bytes)?;
+    if labels || is_no_label(&mode) {
+        Ok((mode, rest))
+    } else {
+        Err(Stop::Refused(bytes.len()))
+    }
+}
+
+/// The mode of a procedure.
+pub fn read_proc_mode(alloc: Global, records: u16, bytes: &[u8]) -> Result<(Mode, &[u8]), Stop>
+    ensures { Gives (λ x. (x.0, x.1.now)) result (formats.passing is_proc (reads.mode_in records) bytes.now) }
+{
+    let (mode, rest) = read_front_mode(alloc, records, bytes)?;
+    if is_proc(&mode) {
+        Ok((mode, rest))
+    } else {
+        Err(Stop::Refused(bytes.len()))
+    }
+}
+
+/// The mode of a value that stands alone.
+pub fn read_value_mode(alloc: Global, records: u16, bytes: &[u8]) -> Result<(Mode, &[u8]), Stop>
+    ensures { Gives (λ x. (x.0, x.1.now)) result (formats.passing is_value (reads.mode_in records) bytes.now) }
+{
+    let (mode, rest) = read_front_mode(alloc, records, bytes)?;
+    if is_value(&mode) {
+        Ok((mode, rest))
+    } else {
+        Err(Stop::Refused(bytes.len()))
+    }
+}
+
+fn is_no_label(mode: &Mode) -> bool
+    ensures { result ≡ is_no_label mode.now }
+{
+    match mode {
+        Mode::Label => false,
+        _ => true,
+    }
+}
+
+fn is_proc(mode: &Mode) -> bool
+    ensures { result ≡ is_proc mode.now }
+{
+    match mode {
+        Mode::Proc(_, _) => true,
+        _ => false,
+    }
+}
+
+fn is_value(mode: &Mode) -> bool
+    ensures { result ≡ is_value mode.now }
+{
+    match mode {
+        Mode::Array(_, _) | Mode::Label => false,
+        _ => true,
+    }
+}
