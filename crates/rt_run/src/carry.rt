@@ -1,5 +1,5 @@
 // One instruction of the running task, with its service.
-ghost use Rattle.std.specs.Prelude.{◌≡◌, ◌≢◌, ◌+◌, ◌-◌, ◌^◌, ◌≤◌, ◌<◌, ℕ, Some, [], ◌∷◌};
+ghost use Rattle.std.specs.Prelude.{◌≡◌, ◌≢◌, ◌+◌, ◌-◌, ◌^◌, ◌≤◌, ◌<◌, ℕ, Some, false, [], ◌∷◌};
 ghost use Rattle.std.specs.Io.KnownBytes.{Keeps};
 ghost use Rattle.rt_words.specs.Causes.{Rose};
 ghost use Rattle.pdp_code.specs.declared.instruction.Reg.TheVariants.{Pc};
@@ -8,6 +8,7 @@ ghost use Rattle.pdp_core.specs.Execute.{reg};
 ghost use Rattle.rt_rules.specs.Rules as rules;
 ghost use Rattle.rt_tasks.specs.Traps.{trap_at};
 ghost use Rattle.rt_tasks.specs.Steps.{Steps};
+ghost use Rattle.rt_run.specs.Inputs.{feed, Gives};
 ghost use Rattle.rt_run.specs.Carrying.{IsServed, IsReadEnd, IsWriteEnd, Reading, Writing, IsAdvanced, IsCarried};
 
 use crate::service::{Answer, answer_of, give, service_of};
@@ -54,8 +55,8 @@ fn call(running: &mut Running, supervisor: &mut Supervisor, task: u8, number: u8
 fn read<I: Source>(running: &mut Running, input: &mut I) -> Carried
     requires { trap_at running.old.shared.now.code (reg running.old.regs Pc) ≡ Some 1 }
     ensures ends { IsReadEnd result }
-    ensures went { result ≡ Carried.Went → Reading (I.left input.old) running.old.regs running.old.shared.now (I.left input.new) running.new.regs running.new.shared.now }
-    ensures failed { result ≡ Carried.ReadFault → Rose (I.faults input.old) (I.faults input.new) × Keeps (I.left input.old) (I.left input.new) × (running.new.regs ≡ running.old.regs) × (running.new.shared.now ≡ running.old.shared.now) }
+    ensures went { result ≡ Carried.Went → Reading (feed (I.left input.old) (I.ended input.old)) running.old.regs running.old.shared.now (feed (I.left input.new) (I.ended input.new)) running.new.regs running.new.shared.now }
+    ensures failed { result ≡ Carried.ReadFault → Rose (I.faults input.old) (I.faults input.new) × Gives (feed (I.left input.old) (I.ended input.old)) [] false (feed (I.left input.new) (I.ended input.new)) × (running.new.regs ≡ running.old.regs) × (running.new.shared.now ≡ running.old.shared.now) }
     ensures later { I.faults input.old ≤ I.faults input.new }
     ensures same_reference { running.new.shared.ghost_name ≡ running.old.shared.ghost_name }
 {
@@ -118,7 +119,7 @@ pub fn carry_out<I: Source, O: Sink>(
     requires runs { rules.running supervisor.old ≡ Some task }
     requires stamp { supervisor.old.stamp < 2 ^ 63 }
     requires clock { supervisor.old.clock < 2 ^ 32 - 1 }
-    ensures carried { IsCarried result task (I.left input.old) (O.written output.old) running.old.regs running.old.shared.now supervisor.old (I.left input.new) (O.written output.new) running.new.regs running.new.shared.now supervisor.new }
+    ensures carried { IsCarried result task (feed (I.left input.old) (I.ended input.old)) (O.written output.old) running.old.regs running.old.shared.now supervisor.old (feed (I.left input.new) (I.ended input.new)) (O.written output.new) running.new.regs running.new.shared.now supervisor.new }
     ensures read_failed { result ≡ Carried.ReadFault → Rose (I.faults input.old) (I.faults input.new) }
     ensures write_failed { result ≡ Carried.WriteFault → Rose (O.faults output.old) (O.faults output.new) }
     ensures reads_later { I.faults input.old ≤ I.faults input.new }
