@@ -1,5 +1,5 @@
 -- One instruction of the running task, with its service.
-use Rattle.std.specs.Prelude.{◌≡◌, ◌≢◌, ℕ, ◌+◌, ◌%◌, Bool, true, false, List, [], ◌∷◌, ◌++◌, length, slice_get, Option, Some, None}
+use Rattle.std.specs.Prelude.{◌≡◌, ◌≢◌, ℕ, ◌+◌, ◌%◌, Bool, true, false, List, [], ◌∷◌, ◌++◌, length, slice_get, Option, Some, None, Result, Ok, Err}
 use Rattle.std.specs.Io.KnownBytes.{Keeps, Appends}
 use Rattle.pdp_code.specs.declared.instruction.Reg.TheVariants.{Pc, R0}
 use Rattle.pdp_core.specs.declared.cpu.Kind.{Kind}
@@ -14,6 +14,8 @@ use Rattle.rt_tasks.specs.Traps.{trap_at}
 use Rattle.rt_run.specs.declared.service.Answer.{Answer}
 use Rattle.rt_run.specs.declared.carry.Carried.{Carried}
 use Rattle.rt_run.specs.declared.carry.Carried.TheVariants.{Went, Served, Fault as Failed, ReadFault, WriteFault}
+use Rattle.rt_run.specs.declared.carry.Granted.{Granted}
+use Rattle.rt_run.specs.declared.carry.Granted.TheVariants.{Nothing, Gave, Took}
 use Rattle.rt_run.specs.Services.{request, serve, asked_by, answered}
 use Rattle.rt_run.specs.Inputs.{Feed, Gives}
 
@@ -44,35 +46,64 @@ pub record Carries (i : ℕ) (from : Feed) (written : Option (List ℕ)) (g : Re
   pub gives : Gives from given over to
   pub puts : Appends written written2 bytes
 
--- ---- the ways in which an instruction ends
-
-abbrev pub IsReadEnd : Carried → Type 0
-IsReadEnd Went = Unit {0}
-IsReadEnd ReadFault = Unit {0}
-IsReadEnd _ = ⊥
-
-abbrev pub IsWriteEnd : Carried → Type 0
-IsWriteEnd Went = Unit {0}
-IsWriteEnd WriteFault = Unit {0}
-IsWriteEnd _ = ⊥
+-- ---- what the console grants
 
 -- the number that RRIN answers
 abbrev pub byte_or_end : Option ℕ → ℕ
 byte_or_end None = 4
 byte_or_end (Some b) = b
 
--- TRAP 1, with what the input told before and after it
-pub record Reading (from : Feed) (g : Regs) (s : Sharing) (to : Feed) (h : Regs) (s2 : Sharing) : Type 0 where
-  pub after : Regs
+-- the input gave a byte, or the end, as this number
+pub record Reads (n : ℕ) (from to : Feed) : Type 0 where
   pub next : Option ℕ
-  pub steps : Steps g s (Trap 1) after s2
   pub takes : Takes from next to
-  pub answers : h ≡ with_reg after R0 (byte_or_end next)
+  pub number : n ≡ byte_or_end next
 
--- TRAP 2, with the bytes written before and after it
-pub record Writing (written : Option (List ℕ)) (g : Regs) (s : Sharing) (written2 : Option (List ℕ)) (h : Regs) (s2 : Sharing) : Type 0 where
+-- what the input granted TRAP 1
+abbrev pub IsRead : Result Granted Carried → Feed → Feed → Type 0
+IsRead (Ok (Gave n)) from to = Reads n from to
+IsRead (Err ReadFault) from to = Gives from [] false to
+IsRead _ from to = ⊥
+
+-- what the output granted TRAP 2, with the bytes written before and after it
+abbrev pub IsWritten : Result Granted Carried → Option (List ℕ) → ℕ → Option (List ℕ) → Type 0
+IsWritten (Ok Took) written b written2 = Appends written written2 (b ∷ [])
+IsWritten (Err WriteFault) written b written2 = Keeps written written2
+IsWritten _ written b written2 = ⊥
+
+-- what is granted belongs to the TRAP that is next
+abbrev pub IsGranted : Granted → Option ℕ → Type 0
+IsGranted Nothing trap = (trap ≢ Some 1) × (trap ≢ Some 2)
+IsGranted (Gave n) trap = trap ≡ Some 1
+IsGranted Took trap = trap ≡ Some 2
+
+-- what the console granted the next instruction
+abbrev pub IsAsked : Result Granted Carried → Feed → Option (List ℕ) → Regs → Sharing → Feed → Option (List ℕ) → Type 0
+IsAsked (Ok Nothing) from written g s to written2 = IsGranted Nothing (trap_at s.code (reg g Pc)) × (to ≡ from) × (written2 ≡ written)
+IsAsked (Ok (Gave n)) from written g s to written2 = IsGranted (Gave n) (trap_at s.code (reg g Pc)) × Reads n from to × (written2 ≡ written)
+IsAsked (Ok Took) from written g s to written2 = IsGranted Took (trap_at s.code (reg g Pc)) × (to ≡ from) × Appends written written2 (reg g R0 % 256 ∷ [])
+IsAsked (Err ReadFault) from written g s to written2 = (trap_at s.code (reg g Pc) ≡ Some 1) × Gives from [] false to × (written2 ≡ written)
+IsAsked (Err WriteFault) from written g s to written2 = (trap_at s.code (reg g Pc) ≡ Some 2) × (to ≡ from) × Keeps written written2
+IsAsked _ from written g s to written2 = ⊥
+
+-- ---- the ways in which an instruction ends
+
+-- the service of TRAP n for task i, for which the console granted this
+abbrev pub IsServedBy : Carried → Granted → ℕ → ℕ → Roster → Regs → Roster → Regs → Type 0
+IsServedBy x Nothing i n r g r2 h = (x ≡ Served) × IsServed i n r g r2 h
+IsServedBy x (Gave v) i n r g r2 h = (x ≡ Went) × (h ≡ with_reg g R0 v) × (r2 ≡ r)
+IsServedBy x Took i n r g r2 h = (x ≡ Went) × (h ≡ g) × (r2 ≡ r)
+
+-- TRAP 1, which got this number
+pub record Given (n : ℕ) (g : Regs) (s : Sharing) (h : Regs) (s2 : Sharing) : Type 0 where
+  pub after : Regs
+  pub steps : Steps g s (Trap 1) after s2
+  pub answers : h ≡ with_reg after R0 n
+
+-- TRAP 2, which keeps its argument
+pub record Putting (g : Regs) (s : Sharing) (h : Regs) (s2 : Sharing) : Type 0 where
   pub steps : Steps g s (Trap 2) h s2
-  pub puts : Appends written written2 (reg h R0 % 256 ∷ [])
+  pub argument : reg h R0 ≡ reg g R0
 
 -- an instruction that asked the supervisor
 pub record Calling (i : ℕ) (g : Regs) (s : Sharing) (r : Roster) (h : Regs) (s2 : Sharing) (r2 : Roster) : Type 0 where
@@ -90,13 +121,19 @@ pub record Faulting (kind : Kind) (at : ℕ) (g : Regs) (s : Sharing) (r : Roste
   pub shared : s2 ≡ s
   pub rules : r2 ≡ r
 
--- how an instruction that is no TRAP of the console ended
-abbrev pub IsAdvanced : Carried → ℕ → Regs → Sharing → Roster → Regs → Sharing → Roster → Type 0
-IsAdvanced Went i g s r h s2 r2 = Steps g s Done h s2 × (r2 ≡ r)
-IsAdvanced Served i g s r h s2 r2 = Calling i g s r h s2 r2
-IsAdvanced (Failed kind at) i g s r h s2 r2 = Faulting kind at g s r h s2 r2
-IsAdvanced ReadFault i g s r h s2 r2 = ⊥
-IsAdvanced WriteFault i g s r h s2 r2 = ⊥
+-- how an instruction that wants nothing of the console ended
+abbrev pub IsDone : Carried → ℕ → Regs → Sharing → Roster → Regs → Sharing → Roster → Type 0
+IsDone Went i g s r h s2 r2 = Steps g s Done h s2 × (r2 ≡ r)
+IsDone Served i g s r h s2 r2 = Calling i g s r h s2 r2
+IsDone (Failed kind at) i g s r h s2 r2 = Faulting kind at g s r h s2 r2
+IsDone ReadFault i g s r h s2 r2 = ⊥
+IsDone WriteFault i g s r h s2 r2 = ⊥
+
+-- how an instruction ended, for which the console granted this
+abbrev pub IsAdvanced : Carried → Granted → ℕ → Regs → Sharing → Roster → Regs → Sharing → Roster → Type 0
+IsAdvanced x Nothing i g s r h s2 r2 = IsDone x i g s r h s2 r2
+IsAdvanced x (Gave n) i g s r h s2 r2 = (x ≡ Went) × Given n g s h s2 × (r2 ≡ r)
+IsAdvanced x Took i g s r h s2 r2 = (x ≡ Went) × Putting g s h s2 × (r2 ≡ r)
 
 -- a fault of the console, at a TRAP of this number: nothing of the instruction is done
 pub record Refuses (n : ℕ) (g : Regs) (s : Sharing) (r : Roster) (h : Regs) (s2 : Sharing) (r2 : Roster) : Type 0 where
