@@ -25,7 +25,7 @@ use rt_tasks::{Parked, Shared, dispatch, park};
 use rt_words::Memory;
 use std::alloc::Global;
 
-/// The parts of a run. Between two instructions each task is in its place.
+/// The parts of a run. Between two turns each task is in its place.
 #[derive(Drop)]
 pub struct Machine {
     pub shared: Shared,
