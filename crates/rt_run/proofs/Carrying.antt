@@ -14,7 +14,7 @@ use Rattle.rt_run.specs.declared.carry.Carried.TheVariants.{Went, Served, Fault 
 use Rattle.rt_run.specs.declared.carry.Granted.{Granted}
 use Rattle.rt_run.specs.declared.carry.Granted.TheVariants.{Nothing, Gave, Took}
 use Rattle.rt_run.specs.declared.service.Answer.TheVariants.{Silence, Value}
-use Rattle.rt_run.specs.Inputs.{Feed, Gives}
+use Rattle.rt_run.specs.Inputs.{Feed}
 use Rattle.rt_run.specs.Carrying.{Takes, Reads, Given, Putting, Calling, Carries, IsDone, IsAsked, IsAdvanced, IsCarried, byte_or_end}
 use Rattle.rt_run.proofs.Feeding.{gives_nothing, appends_nothing}
 

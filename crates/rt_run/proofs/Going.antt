@@ -148,6 +148,7 @@ module _ (i most left : ℕ) (x : Carried) (d d2 : Standing) (from to : Feed) (w
 -- a run on its way to its limit
 pub record IsUnderWay (m m2 : Machine) (limit reads reads2 writes writes2 : ℕ) : Type 0 where
   pub complete : IsComplete m2
+  pub later : m.instructions ≤ m2.instructions
   pub few : m2.instructions ≤ limit
   pub reads_later : reads ≤ reads2
   pub writes_later : writes ≤ writes2

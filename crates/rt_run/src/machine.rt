@@ -179,6 +179,7 @@ impl Machine {
         requires ranges { InRanges self.old.supervisor }
         ensures complete { IsComplete self.new }
         ensures turned { Turns task most result (standing self.old) (feed (I.left input.old) (I.ended input.old)) (O.written output.old) (standing self.new) (feed (I.left input.new) (I.ended input.new)) (O.written output.new) }
+        ensures later { self.old.instructions ≤ self.new.instructions }
         ensures within { self.new.instructions ≤ self.old.instructions + most }
         ensures done { counts result ≡ true → self.old.instructions < self.new.instructions }
         ensures full { result ≡ Carried.Went → self.new.instructions ≡ self.old.instructions + most }
@@ -243,6 +244,7 @@ impl Machine {
         requires reach { self.old.instructions ≤ limit }
         ensures complete { IsComplete self.new }
         ensures went { Advances limit result (standing self.old) (feed (I.left input.old) (I.ended input.old)) (O.written output.old) (standing self.new) (feed (I.left input.new) (I.ended input.new)) (O.written output.new) }
+        ensures later { self.old.instructions ≤ self.new.instructions }
         ensures few { self.new.instructions ≤ limit }
         ensures counted { result ≡ None → self.old.instructions < self.new.instructions }
         ensures read_failed { result ≡ Some End.ReadFault → Rose (I.faults input.old) (I.faults input.new) }
@@ -272,6 +274,7 @@ impl Machine {
         requires reach { self.old.instructions ≤ limit }
         ensures complete { IsComplete self.new }
         ensures ran { Runs limit result (standing self.old) (feed (I.left input.old) (I.ended input.old)) (O.written output.old) (standing self.new) (feed (I.left input.new) (I.ended input.new)) (O.written output.new) }
+        ensures later { self.old.instructions ≤ self.new.instructions }
         ensures few { self.new.instructions ≤ limit }
         ensures read_failed { result ≡ End.ReadFault → Rose (I.faults input.old) (I.faults input.new) }
         ensures write_failed { result ≡ End.WriteFault → Rose (O.faults output.old) (O.faults output.new) }

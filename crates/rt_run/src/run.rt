@@ -53,6 +53,7 @@ impl Run {
         requires limit { limit ≤ 4000000000 }
         requires reach { self.old.count ≤ limit }
         ensures ran { Runs limit result self.old (feed (I.left input.old) (I.ended input.old)) (O.written output.old) self.new (feed (I.left input.new) (I.ended input.new)) (O.written output.new) }
+        ensures later { self.old.count ≤ self.new.count }
         ensures few { self.new.count ≤ limit }
         ensures read_failed { result ≡ End.ReadFault → Rose (I.faults input.old) (I.faults input.new) }
         ensures write_failed { result ≡ End.WriteFault → Rose (O.faults output.old) (O.faults output.new) }
