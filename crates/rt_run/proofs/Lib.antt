@@ -1,7 +1,10 @@
+pub mod Feeding
 pub mod Settling
 pub mod Carrying
 pub mod Lending
+pub mod Reaching
 pub mod Stepping
+pub mod Stretching
 pub mod Turning
 pub mod Slots
 pub mod Serving

@@ -1,5 +1,6 @@
 -- What services keep of the rules.
-use Rattle.std.proofs.Common.{◌≡◌, ℕ, zero, suc, ◌+◌, ◌≤◌, Bool, true, false, if◌then◌else◌, ◌==◌, List, length, Option, Some, None, refl, ap, ◌∙◌, subst, arith, length-set}
+use Rattle.std.proofs.Common.{◌≡◌, ℕ, zero, suc, ◌+◌, ◌≤◌, Bool, true, false, if◌then◌else◌, ◌==◌, List, [], ◌++◌, length, Option, Some, None, refl, ap, ◌∙◌, subst, arith, length-set}
+use Rattle.std.specs.Prelude.{slice_get}
 use Rattle.rt_rules.specs.declared.task.State.{State as Condition}
 use Rattle.rt_rules.specs.declared.task.TaskRow.{TaskRow}
 use Rattle.rt_rules.specs.declared.service.Svc.{Svc}
@@ -13,7 +14,9 @@ use Rattle.rt_run.specs.declared.service.Request.TheVariants.{Nothing, Reads, Pu
 use Rattle.rt_run.specs.Services.{Served, serve, asked_by}
 use Rattle.pdp_core.specs.declared.cpu.Regs.{Regs}
 use Rattle.rt_tasks.specs.Parts.{Sharing}
+use Rattle.rt_run.specs.Inputs.{Feed}
 use Rattle.rt_run.specs.Carrying.{Carries}
+use Rattle.rt_run.specs.Turn.{Lasts}
 
 abbrev Kept : Roster → Roster → Type 0
 Kept r q = length q.tasks ≡ length r.tasks
@@ -75,6 +78,28 @@ served law r taken (Some b) i Reads ranges runs = stays r
 served law r taken next i (Puts b) ranges runs = stays r
 served law r taken next i (Calls svc) ranges runs = let l = law r i svc ranges runs in record { tasks = kept_service r i svc; clock = l.0; stamp = l.1 }
 
-pub rises : ServiceRaises → (i : ℕ) (left written left2 written2 : Option (List ℕ)) (g h : Regs) (s s2 : Sharing) (r r2 : Roster) → InRanges r → running r ≡ Some i → Carries i left written g s r left2 written2 h s2 r2 → Rises r r2
-rises law i left written left2 written2 g h s s2 r r2 ranges runs c =
-    subst (λ (q : Roster). Rises r q) (ap (λ (v : Served). v.rules) (c.service 0)) (served law r 0 c.next i (asked_by c.stop c.after) ranges runs)
+rises : ServiceRaises → (i : ℕ) (from to : Feed) (written written2 : Option (List ℕ)) (g h : Regs) (sh sh2 : Sharing) (r r2 : Roster) → InRanges r → running r ≡ Some i → Carries i from written g sh r to written2 h sh2 r2 → Rises r r2
+rises law i from to written written2 g h sh sh2 r r2 ranges runs c =
+    subst (λ (q : Roster). Rises r q) (ap (λ (v : Served). v.rules) (c.service 0 [] (λ e. refl))) (served law r 0 (slice_get (c.given ++ []) 0) i (asked_by c.stop c.after) ranges runs)
+
+-- ---- what lasts
+
+pub lasts_none : (sh : Sharing) (r : Roster) → Lasts sh r 0 sh r
+lasts_none sh r = record { code = refl; marks = refl; places = refl; bytes = refl; own = refl; tasks = refl; clock = refl; stamp = omega arith }
+
+pub lasts_more : ServiceRaises → (i count : ℕ) (from to : Feed) (written written2 : Option (List ℕ)) (g h : Regs) (sh0 sh sh2 : Sharing) (r r2 : Roster) → InRanges r → running r ≡ Some i → Lasts sh0 r count sh r → Carries i from written g sh r to written2 h sh2 r2 → Lasts sh0 r (count + 1) sh2 r2
+lasts_more law i count from to written written2 g h sh0 sh sh2 r r2 ranges runs l c =
+    let q = rises law i from to written written2 g h sh sh2 r r2 ranges runs c in
+    record {
+      code = (c.steps).code ∙ l.code;
+      marks = (c.steps).marks ∙ l.marks;
+      places = (c.steps).places ∙ l.places;
+      bytes = (c.steps).bytes ∙ l.bytes;
+      own = (c.steps).own ∙ l.own;
+      tasks = q.tasks;
+      clock = q.clock;
+      stamp = omega (arith, q.stamp);
+    }
+
+pub lasts_before : (count : ℕ) (sh0 sh : Sharing) (r r2 : Roster) → Lasts sh0 r count sh r2 → r2 ≡ r → Lasts sh0 r count sh r
+lasts_before count sh0 sh r r2 l same = subst (λ (q : Roster). Lasts sh0 r count sh q) same l

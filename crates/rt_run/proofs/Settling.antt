@@ -1,13 +1,14 @@
 -- Ticks that are taken one after another.
-use Rattle.std.proofs.Common.{◌≡◌, ℕ, suc, ◌+◌, ◌*◌, ◌≤◌, Bool, true, false, ◌&&◌, ◌||◌, nat_le, List, [], ◌∷◌, ◌++◌, length, drop, Option, Some, None, refl, sym, ap, ◌∙◌, subst, arith, length-set}
+use Rattle.std.proofs.Common.{◌≡◌, ℕ, suc, ◌+◌, ◌-◌, ◌*◌, ◌<◌, ◌≤◌, Bool, true, false, if◌then◌else◌, ◌&&◌, ◌||◌, nat_le, List, [], ◌∷◌, ◌++◌, length, drop, Option, Some, None, refl, sym, ap, ◌∙◌, subst, inl, inr, arith, length-set, le-leb, lt-ltb, le-ltb}
 use Rattle.std.specs.Prelude.{slice_get}
+use Rattle.std.proofs.lemmas.Bool.Decides.{leb_tells, nat_tests}
 use Rattle.rt_rules.specs.declared.task.State.{State as Condition}
 use Rattle.rt_rules.specs.declared.task.State.TheVariants.{Ready, Delayed, Event, Facility, Ended, Failed}
 use Rattle.rt_rules.specs.declared.task.TaskRow.{TaskRow}
 use Rattle.rt_rules.specs.Roster.{Roster, has_ended, InRanges}
 use Rattle.rt_rules.specs.Rules.{first_from, number_of, is_ready, running, tick, arrives_if, counted_rows, stamp_after}
 use Rattle.rt_rules.specs.Laws.{TickRaises}
-use Rattle.rt_run.specs.Ticking.{Ticking}
+use Rattle.rt_run.specs.Ticking.{Ticking, room_before}
 use Rattle.rt_run.specs.Boundaries.{State, steps, all_ended, is_due, settle, ticked, with_ticks}
 
 -- the ticks taken so far lead to the same
@@ -138,3 +139,78 @@ settle_again (g ∷ gs) s h = by (is_due g s.rules s.since) refl (settle_again g
 -- a state with the rules and ticks that it has
 pub same_ticks : (s : State) (r : Roster) (t : Ticking) → s.rules ≡ r → s.gaps ≡ t.gaps → s.since ≡ t.since → s.placements ≡ t.placements → s ≡ with_ticks s r t
 same_ticks s r t a b c d = rw (sym a, sym b, sym c, sym d) refl
+
+-- ---- between two ticks
+
+gap_over : (gap since : ℕ) → since < gap → nat_le gap since ≡ false
+gap_over gap since h = grind (arith, nat_tests)
+
+-- where a task runs and the next gap isn't over, no tick is due
+pub unticked : (s : State) (i : ℕ) → running s.rules ≡ Some i → ((gap : ℕ) → slice_get s.gaps 0 ≡ Some gap → s.since < gap) → settle s.gaps s ≡ s
+unticked s i runs early = by s.gaps refl
+  where
+    by : (gs : List ℕ) → s.gaps ≡ gs → settle gs s ≡ s
+    by [] e = refl
+    by (g ∷ gs) e =
+        let later : s.since < g = early g (ap (λ (xs : List ℕ). slice_get xs 0) e) in
+        let not_due : is_due g s.rules s.since ≡ false = sym (due_while_running s.rules i g s.since (sym runs)) ∙ gap_over g s.since later in
+        rw not_due refl
+
+fewer_gaps : (gs : List ℕ) (s : State) → s.gaps ≡ gs → length (settle gs s).gaps ≤ length gs
+fewer_gaps [] s h = omega (arith, ap (λ (xs : List ℕ). length xs) h)
+fewer_gaps (g ∷ gs) s h = by (is_due g s.rules s.since) (fewer_gaps gs (ticked s gs) refl)
+  where
+    by : (b : Bool) → length (settle gs (ticked s gs)).gaps ≤ length gs → length (if b then settle gs (ticked s gs) else s).gaps ≤ suc (length gs)
+    by true k = omega arith
+    by false k = omega (arith, ap (λ (xs : List ℕ). length xs) h)
+
+-- and the other way
+pub gap_left : (s : State) (i gap : ℕ) → running s.rules ≡ Some i → settle s.gaps s ≡ s → slice_get s.gaps 0 ≡ Some gap → s.since < gap
+gap_left s i gap runs settled next = by s.gaps refl next
+  where
+    not_over : (g : ℕ) (gs : List ℕ) → s.gaps ≡ g ∷ gs → g ≤ s.since → ⊥
+    not_over g gs e over =
+        let due : is_due g s.rules s.since ≡ true = sym (due_while_running s.rules i g s.since (sym runs)) ∙ le-leb g s.since over in
+        let taken : settle (g ∷ gs) s ≡ settle gs (ticked s gs) = rw due refl in
+        let went : settle s.gaps s ≡ settle gs (ticked s gs) = ap (λ (xs : List ℕ). settle xs s) e ∙ taken in
+        let same : length (settle gs (ticked s gs)).gaps ≡ length s.gaps = ap (λ (t : State). length t.gaps) (sym went ∙ settled) in
+        let all : length s.gaps ≡ suc (length gs) = ap (λ (xs : List ℕ). length xs) e in
+        omega (arith, fewer_gaps gs (ticked s gs) refl, same, all)
+
+    by : (gs : List ℕ) → s.gaps ≡ gs → slice_get gs 0 ≡ Some gap → s.since < gap
+    by [] e n = absurd (let no : None ≡ Some gap = n in cc)
+    by (g ∷ gs) e n =
+        let same : g ≡ gap = cc in
+        elim (leb_tells g s.since) [
+          | inl q ↦ absurd (not_over g gs e q.1)
+          | inr q ↦ omega (arith, q.1, same)
+        ]
+
+-- the room up to the next tick
+module _ (most gap since : ℕ) where
+  room_by_least : since < gap → (A : ℕ → Type 0) → A (gap - since) → (most ≤ gap - since → A most) → A (room_before most (Some gap) since)
+  room_by_least h A left whole =
+      rw (gap_over gap since h) (elim (leb_tells most (gap - since)) [
+        | inl q ↦ rw (le-ltb (gap - since) most q.1) (whole q.1)
+        | inr q ↦ rw (lt-ltb (gap - since) most q.1) left
+      ])
+
+pub room_is_early : (most gap since : ℕ) → since < gap → since + room_before most (Some gap) since ≤ gap
+room_is_early most gap since h = room_by_least most gap since h (λ (n : ℕ). since + n ≤ gap) (omega arith) (λ q. omega arith)
+
+room_is_some : (most : ℕ) (next : Option ℕ) (since : ℕ) → 0 < most → (0 < room_before most next since) × (room_before most next since ≤ most)
+room_is_some most None since h = (h, omega arith)
+room_is_some most (Some gap) since h =
+    elim (leb_tells gap since) [
+      | inl q ↦ rw (le-leb gap since q.1) (omega arith, omega arith)
+      | inr q ↦ by (omega arith)
+    ]
+  where
+    by : since < gap → (0 < room_before most (Some gap) since) × (room_before most (Some gap) since ≤ most)
+    by later = rw (gap_over gap since later) (elim (leb_tells most (gap - since)) [
+      | inl r ↦ rw (le-ltb (gap - since) most r.1) (h, omega arith)
+      | inr r ↦ rw (lt-ltb (gap - since) most r.1) (omega arith, omega arith)
+    ])
+
+pub room_within : (room most : ℕ) (next : Option ℕ) (since : ℕ) → room ≡ room_before most next since → 0 < most → (0 < room) × (room ≤ most)
+room_within room most next since e h = let q = room_is_some most next since h in (subst (λ (n : ℕ). 0 < n) (sym e) q.0, subst (λ (n : ℕ). n ≤ most) (sym e) q.1)

@@ -1,5 +1,5 @@
 -- One instruction with its service is one step of the machine.
-use Rattle.std.proofs.Common.{◌≡◌, ℕ, zero, suc, ◌+◌, ◌-◌, ◌<◌, List, [], ◌∷◌, ◌++◌, length, drop, map, Option, Some, None, refl, sym, ap, ◌∙◌, arith}
+use Rattle.std.proofs.Common.{◌≡◌, ℕ, zero, suc, ◌+◌, ◌-◌, ◌<◌, List, [], ◌∷◌, ◌++◌, length, drop, map, Option, Some, refl, sym, ap, ◌∙◌, arith}
 use Rattle.std.specs.Prelude.{slice_get, slice_set}
 use Rattle.std.specs.Io.KnownBytes.{Appends}
 use Rattle.pdp_code.specs.declared.instruction.Reg.TheVariants.{Pc}
@@ -16,10 +16,9 @@ use Rattle.rt_rules.specs.Roster.{Roster}
 use Rattle.rt_tasks.specs.Parts.{Sharing, Task}
 use Rattle.rt_tasks.specs.Start.{places_of}
 use Rattle.rt_tasks.specs.Whole.{whole}
-use Rattle.rt_run.specs.declared.service.Request.{Request}
-use Rattle.rt_run.specs.declared.service.Request.TheVariants.{Nothing, Reads, Puts, Calls}
 use Rattle.rt_run.specs.Services.{Served, serve, asked_by, answered}
-use Rattle.rt_run.specs.Carrying.{Takes, Carries}
+use Rattle.rt_run.specs.Inputs.{Feed, Ahead}
+use Rattle.rt_run.specs.Carrying.{Carries}
 use Rattle.rt_run.specs.Boundaries.{State, Made, boundary_at, made_by, landed_by, landed, instruction, go_by}
 use Rattle.rt_run.specs.Picture.{ShowsRunning, others_memory, regs_of}
 
@@ -30,34 +29,6 @@ get_drop [] zero = refl
 get_drop [] (suc n) = refl
 get_drop (x ∷ xs) zero = refl
 get_drop (x ∷ xs) (suc n) = get_drop xs n
-
-drop_more : (xs : List ℕ) (n b : ℕ) (ys : List ℕ) → drop n xs ≡ b ∷ ys → ys ≡ drop (suc n) xs
-drop_more [] zero b ys h = absurd cc
-drop_more [] (suc n) b ys h = absurd cc
-drop_more (x ∷ xs) zero b ys h = let same : x ∷ xs ≡ b ∷ ys = h in let t : xs ≡ ys = cc in sym t
-drop_more (x ∷ xs) (suc n) b ys h = drop_more xs n b ys h
-
--- the byte that is taken is the next one of the whole input
-next_same : (all : List ℕ) (taken i : ℕ) (r : Roster) (next : Option ℕ) (left2 : Option (List ℕ)) (q : Request) → Takes q (Some (drop taken all)) next left2 → serve r taken next i q ≡ serve r taken (slice_get all taken) i q
-next_same all taken i r next left2 Nothing h = refl
-next_same all taken i r next left2 (Puts b) h = refl
-next_same all taken i r next left2 (Calls svc) h = refl
-next_same all taken i r None left2 Reads h =
-    let e : slice_get all taken ≡ None = get_drop all taken ∙ ap (λ (xs : List ℕ). slice_get xs 0) h.0 in
-    rw e refl
-next_same all taken i r (Some b) None Reads h = absurd h
-next_same all taken i r (Some b) (Some ys) Reads h =
-    let e : slice_get all taken ≡ Some b = get_drop all taken ∙ ap (λ (xs : List ℕ). slice_get xs 0) h in
-    rw e refl
-
-left_same : (all : List ℕ) (taken i : ℕ) (r : Roster) (next : Option ℕ) (left2 : Option (List ℕ)) (q : Request) → Takes q (Some (drop taken all)) next left2 → left2 ≡ Some (drop (serve r taken next i q).taken all)
-left_same all taken i r next left2 Nothing h = h
-left_same all taken i r next left2 (Puts b) h = h
-left_same all taken i r next left2 (Calls svc) h = h
-left_same all taken i r None None Reads h = absurd h.1
-left_same all taken i r None (Some ys) Reads h = ap Some h.1
-left_same all taken i r (Some b) None Reads h = absurd h
-left_same all taken i r (Some b) (Some ys) Reads h = let one : suc taken ≡ taken + 1 = omega arith in ap Some (drop_more all taken b ys h) ∙ ap (λ (n : ℕ). Some (drop n all)) one
 
 -- ---- the instruction
 
@@ -81,7 +52,7 @@ length-regs [] = refl
 length-regs (t ∷ ts) = ap suc (length-regs ts)
 
 -- what an instruction of the running task makes of a state
-pub record GoesOn (image : ImageParts) (all : List ℕ) (s : State) (i k : ℕ) (ts : List Task) (g : Regs) (left2 written written2 : Option (List ℕ)) (h : Regs) (s2 : Sharing) (r2 : Roster) : Type 0 where
+pub record GoesOn (image : ImageParts) (all : List ℕ) (s : State) (i k : ℕ) (ts : List Task) (g : Regs) (given : List ℕ) (written written2 : Option (List ℕ)) (h : Regs) (s2 : Sharing) (r2 : Roster) : Type 0 where
   pub next : State
   pub goes : go_by image all s (Some i) ≡ boundary_at next
   pub shows : ShowsRunning image next k ts h s2
@@ -90,13 +61,13 @@ pub record GoesOn (image : ImageParts) (all : List ℕ) (s : State) (i k : ℕ) 
   pub since : next.since ≡ s.since + 1
   pub placements : next.placements ≡ s.placements
   pub made : next.made ≡ (let m : Made = record { task = i; mark = mark_at image (reg g Pc) } in m) ∷ s.made
-  pub left : left2 ≡ Some (drop next.taken all)
+  pub taken : next.taken ≡ s.taken + length given
   pub bytes : List ℕ
   pub output : next.output ≡ s.output ++ bytes
   pub appended : Appends written written2 bytes
 
-pub goes_on : (image : ImageParts) (all : List ℕ) (s : State) (i k : ℕ) (ts : List Task) (g h : Regs) (sh s2 : Sharing) (left2 written written2 : Option (List ℕ)) (r2 : Roster) → ShowsRunning image s k ts g sh → i - 1 ≡ k → Carries i (Some (drop s.taken all)) written g sh s.rules left2 written2 h s2 r2 → GoesOn image all s i k ts g left2 written written2 h s2 r2
-goes_on image all s i k ts g h sh s2 left2 written written2 r2 w place c =
+pub goes_on : (image : ImageParts) (all : List ℕ) (s : State) (i k : ℕ) (ts : List Task) (g h : Regs) (sh s2 : Sharing) (from to : Feed) (written written2 : Option (List ℕ)) (r r2 : Roster) (rest : List ℕ) → ShowsRunning image s k ts g sh → i - 1 ≡ k → s.rules ≡ r → (c : Carries i from written g sh r to written2 h s2 r2) → Ahead all s.taken c.given c.over rest → GoesOn image all s i k ts g c.given written written2 h s2 r2
+goes_on image all s i k ts g h sh s2 from to written written2 r r2 rest w place same c ahead =
     let mark = mark_at image (reg g Pc) in
     let x : Outcome = record { stop = c.stop; regs = c.after; world = protected sh.places (whole s2 (others_memory k ts)) } in
     let did : execute (protected (places_of image (i - 1)) s.memory) g ≡ x =
@@ -104,8 +75,11 @@ goes_on image all s i k ts g h sh s2 left2 written written2 r2 w place c =
     ∙ ap (λ (p : Protection). execute (protected p (whole sh (others_memory k ts))) g) (ap (places_of image) place ∙ sym w.places)
     ∙ (c.steps).executed (others_memory k ts) in
     let there : slice_get s.regs (i - 1) ≡ Some g = rw (place, w.regs) (get_set (map regs_of ts) k g (omega (arith, w.there, length-regs ts))) in
-    let v : Served = record { rules = r2; taken = s.taken + c.took; bytes = c.bytes; answer = c.answer } in
-    let served : serve s.rules s.taken (slice_get all s.taken) i (asked_by c.stop c.after) ≡ v = sym (next_same all s.taken i s.rules c.next left2 (asked_by c.stop c.after) c.console) ∙ c.service s.taken in
+    let v : Served = record { rules = r2; taken = s.taken + length c.given; bytes = c.bytes; answer = c.answer } in
+    let served : serve s.rules s.taken (slice_get all s.taken) i (asked_by c.stop c.after) ≡ v =
+    ap (λ (q : Roster). serve q s.taken (slice_get all s.taken) i (asked_by c.stop c.after)) same
+    ∙ ap (λ (o : Option ℕ). serve r s.taken o i (asked_by c.stop c.after)) (get_drop all s.taken ∙ ap (λ (xs : List ℕ). slice_get xs 0) ahead.next)
+    ∙ c.service s.taken rest ahead.last in
     let next : State = made_by s i mark x v in
     record {
       next = next;
@@ -115,7 +89,7 @@ goes_on image all s i k ts g h sh s2 left2 written written2 r2 w place c =
           ∙ lands all s i mark x c.stop c.goes
           ∙ ap (λ (u : Served). boundary_at (made_by s i mark x u)) served;
       shows = record {
-        regs = rw (place, w.regs) (set_twice (map regs_of ts) k g (answered c.after c.answer)) ∙ ap (slice_set (map regs_of ts) k) (sym c.given);
+        regs = rw (place, w.regs) (set_twice (map regs_of ts) k g (answered c.after c.answer)) ∙ ap (slice_set (map regs_of ts) k) (sym c.answers);
         memory = refl;
         there = w.there;
         code = (c.steps).code ∙ w.code;
@@ -127,7 +101,7 @@ goes_on image all s i k ts g h sh s2 left2 written written2 r2 w place c =
       since = refl;
       placements = refl;
       made = refl;
-      left = left_same all s.taken i s.rules c.next left2 (asked_by c.stop c.after) c.console ∙ ap (λ (u : Served). Some (drop u.taken all)) (c.service s.taken);
+      taken = refl;
       bytes = c.bytes;
       output = refl;
       appended = c.puts;

@@ -1,26 +1,24 @@
--- A task that runs for one instruction and is parked again.
-use Rattle.std.proofs.Common.{◌≡◌, ◌⊎◌, ℕ, zero, suc, ◌+◌, ◌-◌, ◌*◌, ◌<◌, ◌≤◌, List, [], ◌∷◌, length, drop, map, Option, Some, None, refl, sym, ap, ◌∙◌, subst, inl, inr, arith, length-set}
+-- A task that runs and is parked again.
+use Rattle.std.proofs.Common.{◌≡◌, ◌⊎◌, ℕ, zero, suc, ◌+◌, ◌*◌, ◌<◌, ◌≤◌, List, [], ◌∷◌, length, map, Option, Some, None, refl, sym, ap, ◌∙◌, subst, inl, inr, arith, length-set}
 use Rattle.std.specs.Prelude.{slice_get, slice_set}
 use Rattle.std.proofs.Math.Path.{fun_ext}
 use Rattle.std.proofs.lemmas.Bool.Decides.{eqb_tells}
-use Rattle.pdp_code.specs.declared.instruction.Reg.TheVariants.{Pc}
 use Rattle.pdp_core.specs.declared.cpu.Regs.{Regs}
 use Rattle.pdp_core.specs.declared.memory.Protection.{Protection}
-use Rattle.pdp_core.specs.Execute.{reg}
 use Rattle.rt_image.specs.declared.image.ImageParts.{ImageParts}
 use Rattle.rt_image.specs.declared.image.ImageTask.{ImageTask}
-use Rattle.rt_image.specs.Memory.{mark_at, block_from, stack_words, data_end}
+use Rattle.rt_image.specs.Memory.{block_from, stack_words, data_end}
 use Rattle.rt_image.specs.Ranges.{task_size}
 use Rattle.rt_rules.specs.Roster.{Roster}
 use Rattle.rt_tasks.specs.Parts.{Sharing, Task, LieInOrder, EndAt, at_rest, with_task}
 use Rattle.rt_tasks.specs.Start.{places_of}
 use Rattle.rt_tasks.specs.Whole.{whole}
-use Rattle.rt_run.specs.Carrying.{Carries}
-use Rattle.rt_run.specs.Boundaries.{State, Made, steps_of}
+use Rattle.rt_run.specs.declared.carry.Carried.{Carried}
+use Rattle.rt_run.specs.Ticking.{Ticking}
+use Rattle.rt_run.specs.Boundaries.{State}
 use Rattle.rt_run.specs.Picture.{ShowsRunning, Stands, Standing, Shows, tasks_memory, regs_of}
-use Rattle.rt_run.specs.Turn.{Turns}
+use Rattle.rt_run.specs.Turn.{Lasts, IsStopped, Goes, Turned}
 use Rattle.rt_run.proofs.Lending.{LieApart, lent, others_stay}
-use Rattle.rt_run.proofs.Stepping.{GoesOn, goes_on}
 
 -- ---- where the tasks of an image lie
 
@@ -100,7 +98,7 @@ running_shown image s d k t shows got = record {
   places = ((shows.stands).each k t got).0;
 }
 
-module _ (image : ImageParts) (all : List ℕ) (s : State) (d : Standing) (i k : ℕ) (t t2 : Task) (sh2 : Sharing) (left2 written written2 : Option (List ℕ)) (r2 : Roster) (place : i - 1 ≡ k) (shows : Shows image d s) (got : slice_get d.tasks k ≡ Some t) (c : Carries i (Some (drop s.taken all)) written t.regs (with_task d.shared t) d.rules left2 written2 t2.regs (with_task sh2 t2) r2) where
+module _ (image : ImageParts) (gaps all : List ℕ) (s : State) (d d2 : Standing) (k : ℕ) (t t2 : Task) (sh2 : Sharing) (r2 : Roster) (given : List ℕ) (count marks : ℕ) (written written2 : Option (List ℕ)) (shows : Shows image d s) (got : slice_get d.tasks k ≡ Some t) (l : Lasts (with_task d.shared t) d.rules count (with_task sh2 t2) r2) (shared : d2.shared ≡ sh2) (tasks : d2.tasks ≡ slice_set d.tasks k t2) (rules : d2.rules ≡ r2) (ticking : d2.ticking ≡ record { gaps = (d.ticking).gaps; since = (d.ticking).since + count; placements = (d.ticking).placements }) (counted : d2.count ≡ d.count + count) (marked : d2.marks ≡ d.marks + marks) (w : Goes image gaps all s k d.tasks given count marks t2.regs (with_task sh2 t2) r2 written written2) where
   stands : Stands image d.shared d.tasks
   stands = shows.stands
 
@@ -109,9 +107,9 @@ module _ (image : ImageParts) (all : List ℕ) (s : State) (d : Standing) (i k :
 
   stands_then : Stands image sh2 (slice_set d.tasks k t2)
   stands_then = record {
-    code = (c.steps).code ∙ stands.code;
-    marks = (c.steps).marks ∙ stands.marks;
-    bytes = (c.steps).bytes ∙ stands.bytes;
+    code = l.code ∙ stands.code;
+    marks = l.marks ∙ stands.marks;
+    bytes = l.bytes ∙ stands.bytes;
     count = length-set d.tasks k t2 ∙ stands.count;
     each = λ j u e. each j u e;
   }
@@ -124,54 +122,36 @@ module _ (image : ImageParts) (all : List ℕ) (s : State) (d : Standing) (i k :
                 let both : Some t2 ≡ Some u = sym (get_set_same d.tasks k t2 there) ∙ here in
                 let same : t2 ≡ u = cc in
                 let was = stands.each k t got in
-                let own : length t2.own ≡ length t.own = (c.steps).own in
-                let places : t2.places ≡ t.places = (c.steps).places in
+                let own : length t2.own ≡ length t.own = l.own in
+                let places : t2.places ≡ t.places = l.places in
                 subst (λ (x : Task). (x.places ≡ places_of image j) × LieInOrder x.own x.places) same (places ∙ was.0 ∙ ap (places_of image) (sym q.1), same_order t.own t2.own t.places t2.places (sym places) own was.1)
             | inr q ↦ stands.each j u (sym (get_set_other d.tasks k j t2 q.1) ∙ e)
           ]
 
-  carries : Carries i (Some (drop s.taken all)) written t.regs (with_task d.shared t) s.rules left2 written2 t2.regs (with_task sh2 t2) r2
-  carries = subst (λ (q : Roster). Carries i (Some (drop s.taken all)) written t.regs (with_task d.shared t) q left2 written2 t2.regs (with_task sh2 t2) r2) (sym shows.rules) c
-
-  on : GoesOn image all s i k d.tasks t.regs left2 written written2 t2.regs (with_task sh2 t2) r2
-  on = goes_on image all s i k d.tasks t.regs t2.regs (with_task d.shared t) (with_task sh2 t2) left2 written written2 r2 (running_shown image s d k t shows got) place carries
-
-  abbrev pub after_turn : Standing
-  after_turn = record {
-    shared = sh2;
-    tasks = slice_set d.tasks k t2;
-    rules = r2;
-    ticking = record { gaps = (d.ticking).gaps; since = (d.ticking).since + 1; placements = (d.ticking).placements };
-    count = d.count + 1;
-    marks = d.marks + mark_at image (reg t.regs Pc);
-  }
-
   got_then : slice_get (slice_set d.tasks k t2) k ≡ Some t2
   got_then = get_set_same d.tasks k t2 there
 
-  memory_then : on.next.memory ≡ whole (at_rest sh2) (tasks_memory (slice_set d.tasks k t2))
+  memory_then : (w.state).memory ≡ whole (at_rest sh2) (tasks_memory (slice_set d.tasks k t2))
   memory_then =
-      on.shows.memory
+      (w.shows).memory
       ∙ ap (λ (others : ℕ → ℕ). whole (with_task sh2 t2) others) (fun_ext (λ a. sym (others_stay d.tasks k t2 a)))
       ∙ lent sh2 t2 k (slice_set d.tasks k t2) (apart image sh2 (slice_set d.tasks k t2) stands_then) got_then (ends_at image sh2 (slice_set d.tasks k t2) k t2 stands_then got_then)
 
-  pub turns : Turns image all s i after_turn left2 written written2
-  turns = record {
-    next = on.next;
-    goes = on.goes;
-    shows = record {
-      regs = on.shows.regs ∙ map_set d.tasks k t2;
-      memory = memory_then;
-      rules = on.rules;
-      gaps = on.gaps ∙ shows.gaps;
-      since = on.since ∙ ap (λ (n : ℕ). n + 1) shows.since;
-      placements = on.placements ∙ shows.placements;
-      count = ap (λ (ms : List Made). length ms) on.made ∙ omega (arith, shows.count);
-      steps_taken = ap steps_of on.made ∙ ap (λ (n : ℕ). n + mark_at image (reg t.regs Pc)) shows.steps_taken;
-      stands = stands_then;
-    };
-    left = on.left;
-    bytes = on.bytes;
-    output = on.output;
-    appended = on.appended;
+  shows_then : Shows image d2 w.state
+  shows_then = record {
+    regs = (w.shows).regs ∙ map_set d.tasks k t2 ∙ ap (map regs_of) (sym tasks);
+    memory = memory_then ∙ ap (λ (x : Sharing). whole (at_rest x) (tasks_memory (slice_set d.tasks k t2))) (sym shared) ∙ ap (λ (ts : List Task). whole (at_rest d2.shared) (tasks_memory ts)) (sym tasks);
+    rules = w.rules ∙ sym rules;
+    gaps = w.ticks_left ∙ shows.gaps ∙ ap (λ (x : Ticking). x.gaps) (sym ticking);
+    since = w.since ∙ ap (λ (n : ℕ). n + count) shows.since ∙ ap (λ (x : Ticking). x.since) (sym ticking);
+    placements = w.placements ∙ shows.placements ∙ ap (λ (x : Ticking). x.placements) (sym ticking);
+    count = w.counted ∙ ap (λ (n : ℕ). n + count) shows.count ∙ sym counted;
+    steps_taken = w.marked ∙ ap (λ (n : ℕ). n + marks) shows.steps_taken ∙ sym marked;
+    stands = subst (λ (x : Sharing). Stands image x d2.tasks) (sym shared) (subst (λ (ts : List Task). Stands image sh2 ts) (sym tasks) stands_then);
+  }
+
+  pub turned : (x : Carried) (i : ℕ) → IsStopped x image all w.state i → Turned x image gaps all s i given d2 written written2
+  turned x i stopped = record {
+    comes = record { state = w.state; shows = shows_then; reached = w.reached; taken = w.taken; bytes = w.bytes; output = w.output; appended = w.appended };
+    stopped = stopped;
   }

@@ -1,6 +1,6 @@
 -- One instruction of the running task, with its service.
-use Rattle.std.specs.Prelude.{◌≡◌, ◌≢◌, ℕ, ◌+◌, ◌%◌, List, [], ◌∷◌, Option, Some, None}
-use Rattle.std.specs.Io.KnownBytes.{Keeps, Consumes, IsAtEnd, Appends}
+use Rattle.std.specs.Prelude.{◌≡◌, ◌≢◌, ℕ, ◌+◌, ◌%◌, Bool, true, false, List, [], ◌∷◌, ◌++◌, length, slice_get, Option, Some, None, Result, Ok, Err}
+use Rattle.std.specs.Io.KnownBytes.{Keeps, Appends}
 use Rattle.pdp_code.specs.declared.instruction.Reg.TheVariants.{Pc, R0}
 use Rattle.pdp_core.specs.declared.cpu.Kind.{Kind}
 use Rattle.pdp_core.specs.declared.cpu.Regs.{Regs}
@@ -11,20 +11,18 @@ use Rattle.rt_rules.specs.Roster.{Roster}
 use Rattle.rt_tasks.specs.Parts.{Sharing}
 use Rattle.rt_tasks.specs.Steps.{Steps}
 use Rattle.rt_tasks.specs.Traps.{trap_at}
-use Rattle.rt_run.specs.declared.service.Request.{Request}
-use Rattle.rt_run.specs.declared.service.Request.TheVariants.{Nothing, Reads, Puts, Calls}
 use Rattle.rt_run.specs.declared.service.Answer.{Answer}
 use Rattle.rt_run.specs.declared.carry.Carried.{Carried}
 use Rattle.rt_run.specs.declared.carry.Carried.TheVariants.{Went, Served, Fault as Failed, ReadFault, WriteFault}
+use Rattle.rt_run.specs.declared.carry.Granted.{Granted}
+use Rattle.rt_run.specs.declared.carry.Granted.TheVariants.{Nothing, Gave, Took}
 use Rattle.rt_run.specs.Services.{request, serve, asked_by, answered}
+use Rattle.rt_run.specs.Inputs.{Feed, Gives}
 
--- what a request takes of the console's bytes, where they are told
-abbrev pub Takes : Request → Option (List ℕ) → Option ℕ → Option (List ℕ) → Type 0
-Takes Reads left None left2 = IsAtEnd left × Keeps left left2
-Takes Reads left (Some b) left2 = Consumes left left2 (b ∷ [])
-Takes Nothing left next left2 = left2 ≡ left
-Takes (Puts b) left next left2 = left2 ≡ left
-Takes (Calls svc) left next left2 = left2 ≡ left
+-- a call of the input gave this byte, or the end
+abbrev pub Takes : Feed → Option ℕ → Feed → Type 0
+Takes from None to = Gives from [] true to
+Takes from (Some b) to = Gives from (b ∷ []) false to
 
 -- the supervisor's service of TRAP n for task i takes the rules and the task's registers from r and g to r2 and h
 pub record IsServed (i n : ℕ) (r : Roster) (g : Regs) (r2 : Roster) (h : Regs) : Type 0 where
@@ -32,50 +30,80 @@ pub record IsServed (i n : ℕ) (r : Roster) (g : Regs) (r2 : Roster) (h : Regs)
   pub service : (taken : ℕ) (next : Option ℕ) → serve r taken next i (request n (reg g R0)) ≡ record { rules = r2; taken = taken; bytes = []; answer = answer }
   pub given : h ≡ answered g answer
 
--- an instruction of task i and its service: what the console, the task and the rules were, and what they are then
-pub record Carries (i : ℕ) (left : Option (List ℕ)) (written : Option (List ℕ)) (g : Regs) (s : Sharing) (r : Roster) (left2 : Option (List ℕ)) (written2 : Option (List ℕ)) (h : Regs) (s2 : Sharing) (r2 : Roster) : Type 0 where
+-- An instruction of task i and its service: what the console, the task and the rules were, and what they are then. The service is that
+-- of the bytes that the input gave, whatever comes behind them.
+pub record Carries (i : ℕ) (from : Feed) (written : Option (List ℕ)) (g : Regs) (s : Sharing) (r : Roster) (to : Feed) (written2 : Option (List ℕ)) (h : Regs) (s2 : Sharing) (r2 : Roster) : Type 0 where
   pub stop : Stop
   pub after : Regs
-  pub next : Option ℕ
+  pub given : List ℕ  -- by the input
+  pub over : Bool  -- whether it gave the end
+  pub bytes : List ℕ  -- put
   pub answer : Answer
-  pub bytes : List ℕ
-  pub took : ℕ
   pub steps : Steps g s stop after s2
   pub goes : (kind : Kind) (at : ℕ) → stop ≡ Fault kind at → ⊥
-  pub service : (taken : ℕ) → serve r taken next i (asked_by stop after) ≡ record { rules = r2; taken = taken + took; bytes = bytes; answer = answer }
-  pub given : h ≡ answered after answer
-  pub console : Takes (asked_by stop after) left next left2
+  pub service : (taken : ℕ) (rest : List ℕ) → (over ≡ true → rest ≡ []) → serve r taken (slice_get (given ++ rest) 0) i (asked_by stop after) ≡ record { rules = r2; taken = taken + length given; bytes = bytes; answer = answer }
+  pub answers : h ≡ answered after answer
+  pub gives : Gives from given over to
   pub puts : Appends written written2 bytes
 
--- ---- the ways in which an instruction ends
-
-abbrev pub IsReadEnd : Carried → Type 0
-IsReadEnd Went = Unit {0}
-IsReadEnd ReadFault = Unit {0}
-IsReadEnd _ = ⊥
-
-abbrev pub IsWriteEnd : Carried → Type 0
-IsWriteEnd Went = Unit {0}
-IsWriteEnd WriteFault = Unit {0}
-IsWriteEnd _ = ⊥
+-- ---- what the console grants
 
 -- the number that RRIN answers
 abbrev pub byte_or_end : Option ℕ → ℕ
 byte_or_end None = 4
 byte_or_end (Some b) = b
 
--- TRAP 1, with what was left of the console's bytes before and after it
-pub record Reading (left : Option (List ℕ)) (g : Regs) (s : Sharing) (left2 : Option (List ℕ)) (h : Regs) (s2 : Sharing) : Type 0 where
-  pub after : Regs
+-- the input gave a byte, or the end, as this number
+pub record Reads (n : ℕ) (from to : Feed) : Type 0 where
   pub next : Option ℕ
-  pub steps : Steps g s (Trap 1) after s2
-  pub takes : Takes Reads left next left2
-  pub given : h ≡ with_reg after R0 (byte_or_end next)
+  pub takes : Takes from next to
+  pub number : n ≡ byte_or_end next
 
--- TRAP 2, with the bytes written before and after it
-pub record Writing (written : Option (List ℕ)) (g : Regs) (s : Sharing) (written2 : Option (List ℕ)) (h : Regs) (s2 : Sharing) : Type 0 where
+-- what the input granted TRAP 1
+abbrev pub IsRead : Result Granted Carried → Feed → Feed → Type 0
+IsRead (Ok (Gave n)) from to = Reads n from to
+IsRead (Err ReadFault) from to = Gives from [] false to
+IsRead _ from to = ⊥
+
+-- what the output granted TRAP 2, with the bytes written before and after it
+abbrev pub IsWritten : Result Granted Carried → Option (List ℕ) → ℕ → Option (List ℕ) → Type 0
+IsWritten (Ok Took) written b written2 = Appends written written2 (b ∷ [])
+IsWritten (Err WriteFault) written b written2 = Keeps written written2
+IsWritten _ written b written2 = ⊥
+
+-- what is granted belongs to the TRAP that is next
+abbrev pub IsGranted : Granted → Option ℕ → Type 0
+IsGranted Nothing trap = (trap ≢ Some 1) × (trap ≢ Some 2)
+IsGranted (Gave n) trap = trap ≡ Some 1
+IsGranted Took trap = trap ≡ Some 2
+
+-- what the console granted the next instruction
+abbrev pub IsAsked : Result Granted Carried → Feed → Option (List ℕ) → Regs → Sharing → Feed → Option (List ℕ) → Type 0
+IsAsked (Ok Nothing) from written g s to written2 = IsGranted Nothing (trap_at s.code (reg g Pc)) × (to ≡ from) × (written2 ≡ written)
+IsAsked (Ok (Gave n)) from written g s to written2 = IsGranted (Gave n) (trap_at s.code (reg g Pc)) × Reads n from to × (written2 ≡ written)
+IsAsked (Ok Took) from written g s to written2 = IsGranted Took (trap_at s.code (reg g Pc)) × (to ≡ from) × Appends written written2 (reg g R0 % 256 ∷ [])
+IsAsked (Err ReadFault) from written g s to written2 = (trap_at s.code (reg g Pc) ≡ Some 1) × Gives from [] false to × (written2 ≡ written)
+IsAsked (Err WriteFault) from written g s to written2 = (trap_at s.code (reg g Pc) ≡ Some 2) × (to ≡ from) × Keeps written written2
+IsAsked _ from written g s to written2 = ⊥
+
+-- ---- the ways in which an instruction ends
+
+-- the service of TRAP n for task i, for which the console granted this
+abbrev pub IsServedBy : Carried → Granted → ℕ → ℕ → Roster → Regs → Roster → Regs → Type 0
+IsServedBy x Nothing i n r g r2 h = (x ≡ Served) × IsServed i n r g r2 h
+IsServedBy x (Gave v) i n r g r2 h = (x ≡ Went) × (h ≡ with_reg g R0 v) × (r2 ≡ r)
+IsServedBy x Took i n r g r2 h = (x ≡ Went) × (h ≡ g) × (r2 ≡ r)
+
+-- TRAP 1, which got this number
+pub record Given (n : ℕ) (g : Regs) (s : Sharing) (h : Regs) (s2 : Sharing) : Type 0 where
+  pub after : Regs
+  pub steps : Steps g s (Trap 1) after s2
+  pub answers : h ≡ with_reg after R0 n
+
+-- TRAP 2, which keeps its argument
+pub record Putting (g : Regs) (s : Sharing) (h : Regs) (s2 : Sharing) : Type 0 where
   pub steps : Steps g s (Trap 2) h s2
-  pub puts : Appends written written2 (reg h R0 % 256 ∷ [])
+  pub argument : reg h R0 ≡ reg g R0
 
 -- an instruction that asked the supervisor
 pub record Calling (i : ℕ) (g : Regs) (s : Sharing) (r : Roster) (h : Regs) (s2 : Sharing) (r2 : Roster) : Type 0 where
@@ -93,13 +121,19 @@ pub record Faulting (kind : Kind) (at : ℕ) (g : Regs) (s : Sharing) (r : Roste
   pub shared : s2 ≡ s
   pub rules : r2 ≡ r
 
--- how an instruction that is no TRAP of the console ended
-abbrev pub IsAdvanced : Carried → ℕ → Regs → Sharing → Roster → Regs → Sharing → Roster → Type 0
-IsAdvanced Went i g s r h s2 r2 = Steps g s Done h s2 × (r2 ≡ r)
-IsAdvanced Served i g s r h s2 r2 = Calling i g s r h s2 r2
-IsAdvanced (Failed kind at) i g s r h s2 r2 = Faulting kind at g s r h s2 r2
-IsAdvanced ReadFault i g s r h s2 r2 = ⊥
-IsAdvanced WriteFault i g s r h s2 r2 = ⊥
+-- how an instruction that wants nothing of the console ended
+abbrev pub IsDone : Carried → ℕ → Regs → Sharing → Roster → Regs → Sharing → Roster → Type 0
+IsDone Went i g s r h s2 r2 = Steps g s Done h s2 × (r2 ≡ r)
+IsDone Served i g s r h s2 r2 = Calling i g s r h s2 r2
+IsDone (Failed kind at) i g s r h s2 r2 = Faulting kind at g s r h s2 r2
+IsDone ReadFault i g s r h s2 r2 = ⊥
+IsDone WriteFault i g s r h s2 r2 = ⊥
+
+-- how an instruction ended, for which the console granted this
+abbrev pub IsAdvanced : Carried → Granted → ℕ → Regs → Sharing → Roster → Regs → Sharing → Roster → Type 0
+IsAdvanced x Nothing i g s r h s2 r2 = IsDone x i g s r h s2 r2
+IsAdvanced x (Gave n) i g s r h s2 r2 = (x ≡ Went) × Given n g s h s2 × (r2 ≡ r)
+IsAdvanced x Took i g s r h s2 r2 = (x ≡ Went) × Putting g s h s2 × (r2 ≡ r)
 
 -- a fault of the console, at a TRAP of this number: nothing of the instruction is done
 pub record Refuses (n : ℕ) (g : Regs) (s : Sharing) (r : Roster) (h : Regs) (s2 : Sharing) (r2 : Roster) : Type 0 where
@@ -109,9 +143,9 @@ pub record Refuses (n : ℕ) (g : Regs) (s : Sharing) (r : Roster) (h : Regs) (s
   pub rules : r2 ≡ r
 
 -- how an instruction of task i ended
-abbrev pub IsCarried : Carried → ℕ → Option (List ℕ) → Option (List ℕ) → Regs → Sharing → Roster → Option (List ℕ) → Option (List ℕ) → Regs → Sharing → Roster → Type 0
-IsCarried Went i left written g s r left2 written2 h s2 r2 = Carries i left written g s r left2 written2 h s2 r2 × (r2 ≡ r)
-IsCarried Served i left written g s r left2 written2 h s2 r2 = Carries i left written g s r left2 written2 h s2 r2
-IsCarried (Failed kind at) i left written g s r left2 written2 h s2 r2 = Faulting kind at g s r h s2 r2 × (left2 ≡ left) × (written2 ≡ written)
-IsCarried ReadFault i left written g s r left2 written2 h s2 r2 = Refuses 1 g s r h s2 r2 × Keeps left left2 × (written2 ≡ written)
-IsCarried WriteFault i left written g s r left2 written2 h s2 r2 = Refuses 2 g s r h s2 r2 × Keeps written written2 × (left2 ≡ left)
+abbrev pub IsCarried : Carried → ℕ → Feed → Option (List ℕ) → Regs → Sharing → Roster → Feed → Option (List ℕ) → Regs → Sharing → Roster → Type 0
+IsCarried Went i from written g s r to written2 h s2 r2 = Carries i from written g s r to written2 h s2 r2 × (r2 ≡ r)
+IsCarried Served i from written g s r to written2 h s2 r2 = Carries i from written g s r to written2 h s2 r2
+IsCarried (Failed kind at) i from written g s r to written2 h s2 r2 = Faulting kind at g s r h s2 r2 × (to ≡ from) × (written2 ≡ written)
+IsCarried ReadFault i from written g s r to written2 h s2 r2 = Refuses 1 g s r h s2 r2 × Gives from [] false to × (written2 ≡ written)
+IsCarried WriteFault i from written g s r to written2 h s2 r2 = Refuses 2 g s r h s2 r2 × (to ≡ from) × Keeps written written2

@@ -1,7 +1,9 @@
 pub mod Services
 pub mod Ticking
+pub mod Inputs
 pub mod Boundaries
 pub mod Carrying
 pub mod Picture
-pub mod Turn
 pub mod Runs
+pub mod Turn
+pub mod Laws

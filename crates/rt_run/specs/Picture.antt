@@ -47,7 +47,7 @@ pub record ShowsRunning (image : ImageParts) (state : State) (k : ℕ) (ts : Lis
   pub marks : s.marks ≡ image.marks
   pub places : s.places ≡ places_of image k
 
--- the plain data of a run, between two instructions
+-- the plain data of a run, between two turns
 pub record Standing : Type 0 where
   pub shared : Sharing
   pub tasks : List Task
@@ -78,7 +78,7 @@ present (Some t ∷ os) = t ∷ present os
 abbrev pub standing : Machine → Standing
 standing m = record { shared = m.shared; tasks = present m.tasks.items; rules = m.supervisor; ticking = m.timetable; count = m.instructions; marks = m.steps }
 
--- between two instructions each task is there, and clock, stamp and counts stay in their ranges for a run of 4,000,000,000 instructions
+-- between two turns each task is there, and clock, stamp and counts stay in their ranges for a run of 4,000,000,000 instructions
 pub record IsComplete (m : Machine) : Type 0 where
   pub all_there : m.tasks.items ≡ map (λ t. Some t) (present m.tasks.items)
   pub same_count : length m.supervisor.tasks ≡ length m.tasks.items

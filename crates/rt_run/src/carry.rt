@@ -1,14 +1,12 @@
 // One instruction of the running task, with its service.
-ghost use Rattle.std.specs.Prelude.{◌≡◌, ◌≢◌, ◌+◌, ◌-◌, ◌^◌, ◌≤◌, ◌<◌, ℕ, Some, [], ◌∷◌};
-ghost use Rattle.std.specs.Io.KnownBytes.{Keeps};
+ghost use Rattle.std.specs.Prelude.{◌≡◌, ◌≢◌, ◌-◌, ◌%◌, ◌^◌, ◌≤◌, ◌<◌, Some, Err, IsErr};
 ghost use Rattle.rt_words.specs.Causes.{Rose};
-ghost use Rattle.pdp_code.specs.declared.instruction.Reg.TheVariants.{Pc};
-ghost use Rattle.pdp_core.specs.declared.cpu.Kind.{Kind as FaultKind};
+ghost use Rattle.pdp_code.specs.declared.instruction.Reg.TheVariants.{Pc, R0};
 ghost use Rattle.pdp_core.specs.Execute.{reg};
 ghost use Rattle.rt_rules.specs.Rules as rules;
 ghost use Rattle.rt_tasks.specs.Traps.{trap_at};
-ghost use Rattle.rt_tasks.specs.Steps.{Steps};
-ghost use Rattle.rt_run.specs.Carrying.{IsServed, IsReadEnd, IsWriteEnd, Reading, Writing, IsAdvanced, IsCarried};
+ghost use Rattle.rt_run.specs.Inputs.{feed};
+ghost use Rattle.rt_run.specs.Carrying.{IsServed, IsRead, IsWritten, IsAsked, IsGranted, IsServedBy, IsAdvanced, IsCarried};
 
 use crate::service::{Answer, answer_of, give, service_of};
 use pdp_core::{Kind, Stop};
@@ -34,6 +32,17 @@ pub enum Carried {
     WriteFault,
 }
 
+/// What the console granted an instruction before it was carried out.
+#[derive(Debug, Clone, Copy)]
+pub enum Granted {
+    /// Nothing, and nothing was wanted.
+    Nothing,
+    /// The number that the input gave, for TRAP 1.
+    Gave(u16),
+    /// That the output took the byte, for TRAP 2.
+    Took,
+}
+
 // The supervisor's service of a TRAP, for its task.
 fn call(running: &mut Running, supervisor: &mut Supervisor, task: u8, number: u8)
     requires runs { rules.running supervisor.old ≡ Some task }
@@ -50,59 +59,96 @@ fn call(running: &mut Running, supervisor: &mut Supervisor, task: u8, number: u8
     give(running, answer_of(svc, outcome));
 }
 
-// The console's next byte, for TRAP 1; where the input fails, nothing is done.
-fn read<I: Source>(running: &mut Running, input: &mut I) -> Carried
-    requires { trap_at running.old.shared.now.code (reg running.old.regs Pc) ≡ Some 1 }
-    ensures ends { IsReadEnd result }
-    ensures went { result ≡ Carried.Went → Reading (I.left input.old) running.old.regs running.old.shared.now (I.left input.new) running.new.regs running.new.shared.now }
-    ensures failed { result ≡ Carried.ReadFault → Rose (I.faults input.old) (I.faults input.new) × Keeps (I.left input.old) (I.left input.new) × (running.new.regs ≡ running.old.regs) × (running.new.shared.now ≡ running.old.shared.now) }
+// The console's next byte, for TRAP 1.
+fn read<I: Source>(input: &mut I) -> Result<Granted, Carried>
+    ensures read { IsRead result (feed (I.left input.old) (I.ended input.old)) (feed (I.left input.new) (I.ended input.new)) }
+    ensures failed { IsErr result → Rose (I.faults input.old) (I.faults input.new) }
     ensures later { I.faults input.old ≤ I.faults input.new }
-    ensures same_reference { running.new.shared.ghost_name ≡ running.old.shared.ghost_name }
 {
-    let number = match input.next() {
-        Next::Byte(byte) => u16::from(byte),
-        Next::End => END_OF_INPUT,
-        Next::Failed => return Carried::ReadFault,
-    };
-    let _stop = running.step();
-    running.answer(number);
-    Carried::Went
-}
-
-// A byte put on the console, for TRAP 2; where the output fails, nothing is done.
-fn write<O: Sink>(running: &mut Running, output: &mut O) -> Carried
-    requires { trap_at running.old.shared.now.code (reg running.old.regs Pc) ≡ Some 2 }
-    ensures ends { IsWriteEnd result }
-    ensures went { result ≡ Carried.Went → Writing (O.written output.old) running.old.regs running.old.shared.now (O.written output.new) running.new.regs running.new.shared.now }
-    ensures failed { result ≡ Carried.WriteFault → Rose (O.faults output.old) (O.faults output.new) × Keeps (O.written output.old) (O.written output.new) × (running.new.regs ≡ running.old.regs) × (running.new.shared.now ≡ running.old.shared.now) }
-    ensures later { O.faults output.old ≤ O.faults output.new }
-    ensures same_reference { running.new.shared.ghost_name ≡ running.old.shared.ghost_name }
-{
-    match output.put((running.argument() % 256) as u8) {
-        Ok(()) => {
-            let _stop = running.step();
-            Carried::Went
-        }
-        Err(_) => Carried::WriteFault,
+    match input.next() {
+        Next::Byte(byte) => Ok(Granted::Gave(u16::from(byte))),
+        Next::End => Ok(Granted::Gave(END_OF_INPUT)),
+        Next::Failed => Err(Carried::ReadFault),
     }
 }
 
-// An instruction that is no TRAP of the console.
-fn advance(running: &mut Running, supervisor: &mut Supervisor, task: u8) -> Carried
+// A byte put on the console, for TRAP 2.
+fn write<O: Sink>(running: &Running, output: &mut O) -> Result<Granted, Carried>
+    ensures written { IsWritten result (O.written output.old) (reg running.now.regs R0 % 256) (O.written output.new) }
+    ensures failed { IsErr result → Rose (O.faults output.old) (O.faults output.new) }
+    ensures later { O.faults output.old ≤ O.faults output.new }
+{
+    match output.put((running.argument() % 256) as u8) {
+        Ok(()) => Ok(Granted::Took),
+        Err(_) => Err(Carried::WriteFault),
+    }
+}
+
+// Asks the console for what the next instruction wants of it. Where that fails, nothing is done.
+fn ask<I: Source, O: Sink>(
+    running: &Running,
+    input: &mut I,
+    output: &mut O,
+) -> Result<Granted, Carried>
+    ensures asked { IsAsked result (feed (I.left input.old) (I.ended input.old)) (O.written output.old) running.now.regs running.now.shared.now (feed (I.left input.new) (I.ended input.new)) (O.written output.new) }
+    ensures read_failed { result ≡ Err Carried.ReadFault → Rose (I.faults input.old) (I.faults input.new) }
+    ensures write_failed { result ≡ Err Carried.WriteFault → Rose (O.faults output.old) (O.faults output.new) }
+    ensures reads_later { I.faults input.old ≤ I.faults input.new }
+    ensures writes_later { O.faults output.old ≤ O.faults output.new }
+{
+    match running.next_trap() {
+        Some(1) => read(input),
+        Some(2) => write(running, output),
+        _ => Ok(Granted::Nothing),
+    }
+}
+
+// The service of a TRAP, for which the console granted this.
+fn serve(
+    running: &mut Running,
+    supervisor: &mut Supervisor,
+    task: u8,
+    number: u8,
+    granted: Granted,
+) -> Carried
     requires runs { rules.running supervisor.old ≡ Some task }
     requires stamp { supervisor.old.stamp < 2 ^ 63 }
     requires clock { supervisor.old.clock < 2 ^ 32 - 1 }
-    requires no_read { trap_at running.old.shared.now.code (reg running.old.regs Pc) ≢ Some 1 }
-    requires no_put { trap_at running.old.shared.now.code (reg running.old.regs Pc) ≢ Some 2 }
-    ensures carried { IsAdvanced result task running.old.regs running.old.shared.now supervisor.old running.new.regs running.new.shared.now supervisor.new }
+    requires granted { IsGranted granted (Some number) }
+    ensures served { IsServedBy result granted task number supervisor.old running.old.regs supervisor.new running.new.regs }
+    ensures shared { running.new.shared.now ≡ running.old.shared.now }
+    ensures same_reference { running.new.shared.ghost_name ≡ running.old.shared.ghost_name }
+{
+    match granted {
+        Granted::Nothing => {
+            call(running, supervisor, task, number);
+            Carried::Served
+        }
+        Granted::Gave(value) => {
+            running.answer(value);
+            Carried::Went
+        }
+        Granted::Took => Carried::Went,
+    }
+}
+
+// One instruction, for which the console granted this.
+fn advance(
+    running: &mut Running,
+    supervisor: &mut Supervisor,
+    task: u8,
+    granted: Granted,
+) -> Carried
+    requires runs { rules.running supervisor.old ≡ Some task }
+    requires stamp { supervisor.old.stamp < 2 ^ 63 }
+    requires clock { supervisor.old.clock < 2 ^ 32 - 1 }
+    requires granted { IsGranted granted (trap_at running.old.shared.now.code (reg running.old.regs Pc)) }
+    ensures carried { IsAdvanced result granted task running.old.regs running.old.shared.now supervisor.old running.new.regs running.new.shared.now supervisor.new }
     ensures same_reference { running.new.shared.ghost_name ≡ running.old.shared.ghost_name }
 {
     match running.step() {
         Stop::Went => Carried::Went,
-        Stop::Trap(number) => {
-            call(running, supervisor, task, number);
-            Carried::Served
-        }
+        Stop::Trap(number) => serve(running, supervisor, task, number, granted),
         Stop::Fault(kind, at) => Carried::Fault(kind, at),
     }
 }
@@ -118,16 +164,15 @@ pub fn carry_out<I: Source, O: Sink>(
     requires runs { rules.running supervisor.old ≡ Some task }
     requires stamp { supervisor.old.stamp < 2 ^ 63 }
     requires clock { supervisor.old.clock < 2 ^ 32 - 1 }
-    ensures carried { IsCarried result task (I.left input.old) (O.written output.old) running.old.regs running.old.shared.now supervisor.old (I.left input.new) (O.written output.new) running.new.regs running.new.shared.now supervisor.new }
+    ensures carried { IsCarried result task (feed (I.left input.old) (I.ended input.old)) (O.written output.old) running.old.regs running.old.shared.now supervisor.old (feed (I.left input.new) (I.ended input.new)) (O.written output.new) running.new.regs running.new.shared.now supervisor.new }
     ensures read_failed { result ≡ Carried.ReadFault → Rose (I.faults input.old) (I.faults input.new) }
     ensures write_failed { result ≡ Carried.WriteFault → Rose (O.faults output.old) (O.faults output.new) }
     ensures reads_later { I.faults input.old ≤ I.faults input.new }
     ensures writes_later { O.faults output.old ≤ O.faults output.new }
     ensures same_reference { running.new.shared.ghost_name ≡ running.old.shared.ghost_name }
 {
-    match running.next_trap() {
-        Some(1) => read(running, input),
-        Some(2) => write(running, output),
-        _ => advance(running, supervisor, task),
+    match ask(running, input, output) {
+        Ok(granted) => advance(running, supervisor, task, granted),
+        Err(refused) => refused,
     }
 }

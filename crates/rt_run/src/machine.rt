@@ -1,34 +1,31 @@
 // The machine: what all tasks share, the tasks, the supervisor, the ticks and the counts.
-ghost use Rattle.std.specs.Prelude.{◌≡◌, ◌<◌, ◌≤◌, ◌+◌, ◌*◌, ◌^◌, ◌-◌, ℕ, List, false, Some, None, drop, length, map, slice_get, slice_set, if◌then◌else◌, IfOk};
+ghost use Rattle.std.specs.Prelude.{◌≡◌, ◌<◌, ◌≤◌, ◌+◌, ◌*◌, ◌^◌, ◌-◌, ℕ, true, false, Some, None, length, map, slice_get, slice_set, if◌then◌else◌, IfOk};
 ghost use Rattle.rt_words.specs.Causes.{Rose};
-ghost use Rattle.pdp_code.specs.declared.instruction.Reg.TheVariants.{Pc};
-ghost use Rattle.pdp_core.specs.Execute.{reg};
 ghost use Rattle.rt_image.specs.declared.image.ImageParts.{ImageParts};
 ghost use Rattle.rt_image.specs.Ranges.{HasImageRanges};
 ghost use Rattle.rt_rules.specs.Roster.{InRanges};
 ghost use Rattle.rt_rules.specs.Rules as rules;
-ghost use Rattle.rt_tasks.specs.Parts.{EndAt, at_rest, with_task};
-ghost use Rattle.rt_tasks.specs.Traps.{mark_of};
+ghost use Rattle.rt_tasks.specs.Parts.{EndAt};
+ghost use Rattle.rt_run.specs.Inputs.{feed};
 ghost use Rattle.rt_run.specs.Boundaries.{State, settle as settle_of, all_ended as all_ended_of};
-ghost use Rattle.rt_run.specs.Carrying.{IsCarried};
 ghost use Rattle.rt_run.specs.Picture.{HasOpened, IsComplete, Shows, present, standing};
-ghost use Rattle.rt_run.specs.Runs.{end_of, IsAtBoundary, GoesOn, Reaches};
-ghost use Rattle.rt_run.specs.Turn.{IsTurned, counts};
+ghost use Rattle.rt_run.specs.Runs.{Runs};
+ghost use Rattle.rt_run.specs.Turn.{counts, end_of, Advances, Counted, IsLent, Turns};
 
-use crate::carry::{Carried, carry_out};
+use crate::carry::Carried;
 use crate::open::{open_supervisor, open_tasks};
 use crate::settle::{all_ended, settle};
+use crate::stretch::{Stretch, is_done, run_on};
 use crate::timetable::Timetable;
 use pdp_core::Kind;
 use rt_image::Image;
 use rt_outside::{Sink, Source};
-use rt_rules::clock_and_stamp_stay_low;
 use rt_super::Supervisor;
 use rt_tasks::{Parked, Shared, dispatch, park};
 use rt_words::Memory;
 use std::alloc::Global;
 
-/// The parts of a run. Between two instructions each task is in its place.
+/// The parts of a run. Between two turns each task is in its place.
 #[derive(Drop)]
 pub struct Machine {
     pub shared: Shared,
@@ -56,42 +53,42 @@ pub enum End {
     WriteFault,
 }
 
-/// A task after an instruction, with the mark of that instruction.
+/// A task after it ran, and what it did.
 #[derive(Drop)]
 pub struct Ran {
     pub task: Parked,
-    pub mark: u8,
-    pub carried: Carried,
+    pub stretch: Stretch,
 }
 
-// Lets a task run for one instruction.
-fn run_one<I: Source, O: Sink>(
+// Lets a task run for at most so many instructions.
+fn lend<I: Source, O: Sink>(
     parked: Parked,
     shared: &mut Shared,
     supervisor: &mut Supervisor,
     task: u8,
     input: &mut I,
     output: &mut O,
+    most: u64,
 ) -> Ran
     requires ends { EndAt shared.old.code shared.old.bytes parked.places }
     requires runs { rules.running supervisor.old ≡ Some task }
+    requires ranges { InRanges supervisor.old }
     requires stamp { supervisor.old.stamp < 2 ^ 63 }
     requires clock { supervisor.old.clock < 2 ^ 32 - 1 }
-    ensures carried { IsCarried result.carried task (I.left input.old) (O.written output.old) parked.regs (with_task shared.old parked) supervisor.old (I.left input.new) (O.written output.new) result.task.regs (with_task shared.new result.task) supervisor.new }
-    ensures rests { shared.new ≡ at_rest shared.new }
-    ensures mark { result.mark ≡ mark_of shared.old.marks (reg parked.regs Pc) }
-    ensures read_failed { result.carried ≡ Carried.ReadFault → Rose (I.faults input.old) (I.faults input.new) }
-    ensures write_failed { result.carried ≡ Carried.WriteFault → Rose (O.faults output.old) (O.faults output.new) }
+    requires some { 0 < most }
+    requires few { most ≤ 4000000000 }
+    ensures lent { IsLent task most result.stretch (feed (I.left input.old) (I.ended input.old)) (O.written output.old) shared.old parked supervisor.old (feed (I.left input.new) (I.ended input.new)) (O.written output.new) shared.new result.task supervisor.new }
+    ensures counted { Counted result.stretch most }
+    ensures read_failed { result.stretch.carried ≡ Carried.ReadFault → Rose (I.faults input.old) (I.faults input.new) }
+    ensures write_failed { result.stretch.carried ≡ Carried.WriteFault → Rose (O.faults output.old) (O.faults output.new) }
     ensures reads_later { I.faults input.old ≤ I.faults input.new }
     ensures writes_later { O.faults output.old ≤ O.faults output.new }
 {
     let mut running = dispatch(parked, shared);
-    let mark = running.mark();
-    let carried = carry_out(&mut running, supervisor, task, input, output);
+    let stretch = run_on(&mut running, supervisor, task, input, output, most);
     Ran {
         task: park(running),
-        mark,
-        carried,
+        stretch,
     }
 }
 
@@ -114,12 +111,6 @@ fn put_task(tasks: &mut Vec<Option<Parked>>, n: usize, task: Parked)
     ensures { tasks.new.items ≡ slice_set tasks.old.items n (Some task) }
 {
     tasks[n] = Some(task);
-}
-
-fn is_done(carried: Carried) -> bool
-    ensures { result ≡ counts carried }
-{
-    matches!(carried, Carried::Went | Carried::Served)
 }
 
 // How an instruction of a task that isn't carried out ends the run.
@@ -158,55 +149,64 @@ impl Machine {
         })
     }
 
-    // Counts an instruction with its mark.
-    fn count(&mut self, mark: u8)
-        requires few { self.old.instructions < 4000000000 }
+    // Counts the instructions of a turn, with their marks.
+    fn count(&mut self, stretch: Stretch)
+        requires few { self.old.instructions + stretch.count ≤ 4000000000 }
         requires since { self.old.timetable.since ≤ self.old.instructions }
         requires steps { self.old.steps ≤ 255 * self.old.instructions }
-        ensures { self.new ≡ record self.old { timetable = record { gaps = self.old.timetable.gaps; since = self.old.timetable.since + 1; placements = self.old.timetable.placements }; instructions = self.old.instructions + 1; steps = self.old.steps + mark } }
+        requires marks { stretch.marks ≤ 255 * stretch.count }
+        ensures { self.new ≡ record self.old { timetable = record { gaps = self.old.timetable.gaps; since = self.old.timetable.since + stretch.count; placements = self.old.timetable.placements }; instructions = self.old.instructions + stretch.count; steps = self.old.steps + stretch.marks } }
     {
-        self.instructions += 1;
-        self.steps += u64::from(mark);
-        self.timetable.count();
+        self.instructions += stretch.count;
+        self.steps += stretch.marks;
+        self.timetable.count(stretch.count);
     }
 
-    /// Lets the running task run for one instruction.
-    pub fn turn<I: Source, O: Sink>(&mut self, task: u8, input: &mut I, output: &mut O) -> Carried
+    /// Lets the running task run for at most so many instructions.
+    pub fn turn<I: Source, O: Sink>(
+        &mut self,
+        task: u8,
+        most: u64,
+        input: &mut I,
+        output: &mut O,
+    ) -> Carried
         requires complete { IsComplete self.old }
         requires runs { rules.running self.old.supervisor ≡ Some task }
         requires first { 1 ≤ task }
         requires there { task ≤ length self.old.tasks.items }
-        requires few { self.old.instructions < 4000000000 }
+        requires some { 0 < most }
+        requires few { self.old.instructions + most ≤ 4000000000 }
         requires ranges { InRanges self.old.supervisor }
         ensures complete { IsComplete self.new }
-        ensures turned { (image : ImageParts) (all : List ℕ) (s : State) → Shows image (standing self.old) s → I.left input.old ≡ Some (drop s.taken all) → IsTurned image all s task result (standing self.old) (standing self.new) (I.left input.old) (I.left input.new) (O.written output.old) (O.written output.new) }
-        ensures counted { self.new.instructions ≡ (if counts result then self.old.instructions + 1 else self.old.instructions) }
+        ensures turned { Turns task most result (standing self.old) (feed (I.left input.old) (I.ended input.old)) (O.written output.old) (standing self.new) (feed (I.left input.new) (I.ended input.new)) (O.written output.new) }
+        ensures later { self.old.instructions ≤ self.new.instructions }
+        ensures within { self.new.instructions ≤ self.old.instructions + most }
+        ensures done { counts result ≡ true → self.old.instructions < self.new.instructions }
+        ensures full { result ≡ Carried.Went → self.new.instructions ≡ self.old.instructions + most }
+        ensures fewer { counts result ≡ false → self.new.instructions < self.old.instructions + most }
         ensures read_failed { result ≡ Carried.ReadFault → Rose (I.faults input.old) (I.faults input.new) }
         ensures write_failed { result ≡ Carried.WriteFault → Rose (O.faults output.old) (O.faults output.new) }
         ensures reads_later { I.faults input.old ≤ I.faults input.new }
         ensures writes_later { O.faults output.old ≤ O.faults output.new }
     {
-        clock_and_stamp_stay_low();
         let n = usize::from(task - 1);
         let parked = take_task(&mut self.tasks, n);
-        let ran = run_one(
+        let ran = lend(
             parked,
             &mut self.shared,
             &mut self.supervisor,
             task,
             input,
             output,
+            most,
         );
         let Ran {
             task: after,
-            mark,
-            carried,
+            stretch,
         } = ran;
         put_task(&mut self.tasks, n, after);
-        if is_done(carried) {
-            self.count(mark);
-        }
-        carried
+        self.count(stretch);
+        stretch.carried
     }
 
     /// Takes the ticks that are due.
@@ -232,7 +232,7 @@ impl Machine {
         }
     }
 
-    // One instruction, and the ticks that are due after it; or the end of the run.
+    // A turn of the running task, and the ticks that are due after it; or the end of the run.
     fn go_on<I: Source, O: Sink>(
         &mut self,
         input: &mut I,
@@ -243,9 +243,10 @@ impl Machine {
         requires limit { limit ≤ 4000000000 }
         requires reach { self.old.instructions ≤ limit }
         ensures complete { IsComplete self.new }
-        ensures went { (image : ImageParts) (gaps all : List ℕ) (s : State) → Shows image (standing self.old) s → settle_of s.gaps s ≡ s → IsAtBoundary image gaps all s → I.left input.old ≡ Some (drop s.taken all) → GoesOn image gaps all limit s result (standing self.new) (I.left input.new) (O.written output.old) (O.written output.new) }
+        ensures went { Advances limit result (standing self.old) (feed (I.left input.old) (I.ended input.old)) (O.written output.old) (standing self.new) (feed (I.left input.new) (I.ended input.new)) (O.written output.new) }
+        ensures later { self.old.instructions ≤ self.new.instructions }
         ensures few { self.new.instructions ≤ limit }
-        ensures counted { result ≡ None → self.new.instructions ≡ self.old.instructions + 1 }
+        ensures counted { result ≡ None → self.old.instructions < self.new.instructions }
         ensures read_failed { result ≡ Some End.ReadFault → Rose (I.faults input.old) (I.faults input.new) }
         ensures write_failed { result ≡ Some End.WriteFault → Rose (O.faults output.old) (O.faults output.new) }
         ensures reads_later { I.faults input.old ≤ I.faults input.new }
@@ -257,7 +258,8 @@ impl Machine {
         if self.instructions == limit {
             return Some(End::Limit);
         }
-        let carried = self.turn(task, input, output);
+        let most = self.timetable.room(limit - self.instructions);
+        let carried = self.turn(task, most, input, output);
         if is_done(carried) {
             self.settle();
             return None;
@@ -271,7 +273,8 @@ impl Machine {
         requires limit { limit ≤ 4000000000 }
         requires reach { self.old.instructions ≤ limit }
         ensures complete { IsComplete self.new }
-        ensures ran { (image : ImageParts) (gaps all : List ℕ) (s : State) → Shows image (standing self.old) s → IsAtBoundary image gaps all s → I.left input.old ≡ Some (drop s.taken all) → Reaches image gaps all limit s result (standing self.new) (I.left input.new) (O.written output.old) (O.written output.new) }
+        ensures ran { Runs limit result (standing self.old) (feed (I.left input.old) (I.ended input.old)) (O.written output.old) (standing self.new) (feed (I.left input.new) (I.ended input.new)) (O.written output.new) }
+        ensures later { self.old.instructions ≤ self.new.instructions }
         ensures few { self.new.instructions ≤ limit }
         ensures read_failed { result ≡ End.ReadFault → Rose (I.faults input.old) (I.faults input.new) }
         ensures write_failed { result ≡ End.WriteFault → Rose (O.faults output.old) (O.faults output.new) }

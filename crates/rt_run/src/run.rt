@@ -1,10 +1,10 @@
-ghost use Rattle.std.specs.Prelude.{◌≡◌, ◌≤◌, ◌-◌, ◌+◌, ℕ, List, Some, drop, length, IfOk};
+ghost use Rattle.std.specs.Prelude.{◌≡◌, ◌≤◌, IfOk};
 ghost use Rattle.rt_words.specs.Causes.{Rose};
-ghost use Rattle.rt_image.specs.declared.image.ImageParts.{ImageParts};
 ghost use Rattle.rt_rules.specs.Roster.{row, IsTask};
-ghost use Rattle.rt_run.specs.Boundaries.{State as MachineState, start};
+ghost use Rattle.rt_run.specs.Boundaries.{start};
+ghost use Rattle.rt_run.specs.Inputs.{feed};
 ghost use Rattle.rt_run.specs.Picture.{Shows};
-ghost use Rattle.rt_run.specs.Runs.{IsAtBoundary, Reaches};
+ghost use Rattle.rt_run.specs.Runs.{Runs};
 
 use crate::machine::{End, Machine};
 use crate::timetable::Timetable;
@@ -47,12 +47,13 @@ impl Run {
         Ok(Run { machine })
     }
 
-    /// Runs up to a limit of instructions, counted from the start. Where the bytes of the input are told, it is the run of the
-    /// machine over them. It takes no memory.
+    /// Runs up to a limit of instructions, counted from the start. It is the run of the machine over the bytes that the input gives,
+    /// and over several calls over all that it gave; where the input tells its bytes, these are the ones. It takes no memory.
     pub fn go<I: Source, O: Sink>(&mut self, input: &mut I, output: &mut O, limit: u64) -> End
         requires limit { limit ≤ 4000000000 }
         requires reach { self.old.count ≤ limit }
-        ensures ran { (image : ImageParts) (gaps all : List ℕ) (s : MachineState) → Shows image self.old s → IsAtBoundary image gaps all s → I.left input.old ≡ Some (drop s.taken all) → Reaches image gaps all limit s result self.new (I.left input.new) (O.written output.old) (O.written output.new) }
+        ensures ran { Runs limit result self.old (feed (I.left input.old) (I.ended input.old)) (O.written output.old) self.new (feed (I.left input.new) (I.ended input.new)) (O.written output.new) }
+        ensures later { self.old.count ≤ self.new.count }
         ensures few { self.new.count ≤ limit }
         ensures read_failed { result ≡ End.ReadFault → Rose (I.faults input.old) (I.faults input.new) }
         ensures write_failed { result ≡ End.WriteFault → Rose (O.faults output.old) (O.faults output.new) }

@@ -1,4 +1,5 @@
 ghost use Rattle.std.specs.Prelude.{◌≡◌, ◌+◌, ◌^◌, ◌<◌, ◌≤◌, ◌∷◌, ◌++◌, [], drop, slice_get, length, IfOk};
+ghost use Rattle.rt_run.specs.Ticking.{room_before};
 
 use rt_system::Ticks;
 use rt_words::{ListBuilder, Memory};
@@ -65,12 +66,27 @@ impl Timetable {
         self.placements.as_slice()
     }
 
-    /// Counts an instruction.
-    pub fn count(&mut self)
-        requires { self.old.since + 1 < 2 ^ 64 }
-        ensures { self.new ≡ record self.old { since = self.old.since + 1 } }
+    /// So many instructions, or those up to the next tick where they are fewer; one where that tick is due.
+    pub fn room(&self, most: u64) -> u64
+        ensures { result ≡ room_before most (slice_get self.now.gaps 0) self.now.since }
     {
-        self.since += 1;
+        let Some(gap) = self.gap() else {
+            return most;
+        };
+        let gap = u64::from(gap);
+        if gap <= self.since {
+            return 1;
+        }
+        let left = gap - self.since;
+        if left < most { left } else { most }
+    }
+
+    /// Counts so many instructions.
+    pub fn count(&mut self, instructions: u64)
+        requires { self.old.since + instructions < 2 ^ 64 }
+        ensures { self.new ≡ record self.old { since = self.old.since + instructions } }
+    {
+        self.since += instructions;
     }
 
     /// Takes the next tick, at this number of visible steps. It takes no memory.

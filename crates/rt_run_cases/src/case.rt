@@ -1,5 +1,6 @@
 //! One line of the table.
 
+use crate::flat::flat;
 use crate::runs::{go, open};
 use crate::texts::{bytes_of, numbers_of};
 use rt_outside::{MemSink, MemSource};
@@ -64,6 +65,7 @@ fn answer(
     match word {
         "image" => open(alloc, rest, case, out)?,
         "go" => go(rest, case, out)?,
+        "flat" => flat(alloc, rest, out)?,
         _ => out.push_all(b"no case begins so")?,
     }
     out.push(b'\n')

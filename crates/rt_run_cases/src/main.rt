@@ -7,12 +7,15 @@
 //!   hundred bytes, whose second call fails.
 //! - `image 52544901 ..`: a run of the image that these bytes are, in hexadecimal digits, with what stands before it.
 //! - `go 100`: the run up to so many instructions, counted from the start.
+//! - `flat 100 52544901 ..`: so many instructions of the first task of an image, each by `step` over a flat memory.
 //!
 //! `Limit; instructions 10, steps 20; ticks 0 0; <AB>; queue 1: 1` says how the run ended, how many instructions were carried
 //! out and the marks of them added up, the steps at each tick that was taken, what was put, and which tasks are ready by priority.
+//! Of more than twenty ticks the number is told, and the last one.
 #![tactic(auto)]
 
 mod case;
+mod flat;
 mod runs;
 mod show;
 mod texts;

@@ -6,6 +6,9 @@ use rt_run::{End, Run};
 use rt_super::Supervisor;
 use rt_words::{Memory, Text, octal6};
 
+/// So many ticks are shown one by one.
+const FEW_TICKS: usize = 20;
+
 /// Appends a text and a number.
 pub fn show_count(what: &str, number: u64, out: &mut Text) -> Result<(), Memory> {
     let mut buffer = Buffer::new();
@@ -52,8 +55,12 @@ pub fn show_run(run: &Run, out: &mut Text) -> Result<(), Memory> {
 }
 
 fn show_ticks(placements: &[u64], out: &mut Text) -> Result<(), Memory> {
-    if placements.is_empty() {
+    let Some(last) = placements.last() else {
         return Ok(());
+    };
+    if placements.len() > FEW_TICKS {
+        show_count("; ", placements.len() as u64, out)?;
+        return show_count(" ticks, the last at ", *last, out);
     }
     out.push_all(b"; ticks")?;
     for placement in placements {

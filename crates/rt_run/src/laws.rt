@@ -1,0 +1,12 @@
+// Laws of calls that run a machine.
+ghost use Rattle.rt_run.specs.Laws.{TwoCallsAreOne, ToldBytesAreRunOver};
+
+/// A call of `go` and a further one are one call up to the limit of the second, over the bytes that the input gave in both.
+pub fn two_calls_are_one()
+    ensures { TwoCallsAreOne }
+{}
+
+/// Where the input tells its bytes, a call of `go` is the run over these, and what was taken is left out of what it tells then.
+pub fn told_bytes_are_run_over()
+    ensures { ToldBytesAreRunOver }
+{}

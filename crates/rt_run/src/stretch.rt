@@ -1,0 +1,88 @@
+// The running task's instructions, one after another, while nothing but the task is wanted.
+ghost use Rattle.std.specs.Prelude.{◌≡◌, ◌+◌, ◌-◌, ◌*◌, ◌^◌, ◌≤◌, ◌<◌, Some};
+ghost use Rattle.rt_words.specs.Causes.{Rose};
+ghost use Rattle.rt_rules.specs.Roster.{InRanges};
+ghost use Rattle.rt_rules.specs.Rules as rules;
+ghost use Rattle.rt_run.specs.Inputs.{feed};
+ghost use Rattle.rt_run.specs.Turn.{counts, goes_on, Counted, Lasts, Stretches};
+
+use crate::carry::{Carried, carry_out};
+use rt_outside::{Sink, Source};
+use rt_rules::clock_and_stamp_stay_low;
+use rt_super::Supervisor;
+use rt_tasks::Running;
+
+/// What a task did while it ran: how its last instruction ended, how many were carried out, and their marks, added up.
+#[derive(Debug, Clone, Copy)]
+pub struct Stretch {
+    pub carried: Carried,
+    pub count: u64,
+    pub marks: u64,
+}
+
+/// Whether an instruction was carried out.
+pub fn is_done(carried: Carried) -> bool
+    ensures { result ≡ counts carried }
+{
+    matches!(carried, Carried::Went | Carried::Served)
+}
+
+// Whether the task goes on after so many instructions of at most so many, of which the last one ended so.
+fn may_go_on(carried: Carried, count: u64, most: u64) -> bool
+    ensures { result ≡ goes_on carried count most }
+{
+    match carried {
+        Carried::Went => count < most,
+        _ => false,
+    }
+}
+
+/// Lets the running task carry out instructions up to one that asks the supervisor or can't be carried out, or up to so many. It
+/// takes no memory, and while they go on it touches no queue and no tick.
+pub fn run_on<I: Source, O: Sink>(
+    running: &mut Running,
+    supervisor: &mut Supervisor,
+    task: u8,
+    input: &mut I,
+    output: &mut O,
+    most: u64,
+) -> Stretch
+    requires runs { rules.running supervisor.old ≡ Some task }
+    requires ranges { InRanges supervisor.old }
+    requires stamp { supervisor.old.stamp < 2 ^ 63 }
+    requires clock { supervisor.old.clock < 2 ^ 32 - 1 }
+    requires some { 0 < most }
+    requires few { most ≤ 4000000000 }
+    ensures stretches { Stretches task most result (feed (I.left input.old) (I.ended input.old)) (O.written output.old) running.old.regs running.old.shared.now supervisor.old (feed (I.left input.new) (I.ended input.new)) (O.written output.new) running.new.regs running.new.shared.now supervisor.new }
+    ensures lasts { Lasts running.old.shared.now supervisor.old result.count running.new.shared.now supervisor.new }
+    ensures counted { Counted result most }
+    ensures read_failed { result.carried ≡ Carried.ReadFault → Rose (I.faults input.old) (I.faults input.new) }
+    ensures write_failed { result.carried ≡ Carried.WriteFault → Rose (O.faults output.old) (O.faults output.new) }
+    ensures reads_later { I.faults input.old ≤ I.faults input.new }
+    ensures writes_later { O.faults output.old ≤ O.faults output.new }
+    ensures same_reference { running.new.shared.ghost_name ≡ running.old.shared.ghost_name }
+{
+    clock_and_stamp_stay_low();
+    let mut count = 0;
+    let mut marks = 0;
+    'instructions: loop {
+        let mark = u64::from(running.mark());
+        let carried = carry_out(running, supervisor, task, input, output);
+        if !is_done(carried) {
+            return Stretch {
+                carried,
+                count,
+                marks,
+            };
+        }
+        count += 1;
+        marks += mark;
+        if !may_go_on(carried, count, most) {
+            return Stretch {
+                carried,
+                count,
+                marks,
+            };
+        }
+    }
+}
