@@ -1,13 +1,13 @@
 -- A return to the caller.
-use Rattle.std.proofs.Common.{◌≡◌, ℕ, List, [], ◌∷◌, Option, Some, None, slice_get, refl, ◌∙◌}
+use Rattle.std.proofs.Common.{◌≡◌, List, [], ◌∷◌, Option, Some, None, slice_get, refl, ◌∙◌}
 use Rattle.rt_tree_nodes.specs.declared.store.Datum.{Datum}
 use Rattle.rt_meaning.specs.declared.system.Act.{Act as ActNode}
 use Rattle.rt_meaning.specs.declared.system.Task.{Task as TaskNode}
 use Rattle.rt_work.specs.Nodes.{items}
-use Rattle.rt_meaning.specs.Step.{Task, Over, Doing, with_todo, on_values, returned}
+use Rattle.rt_meaning.specs.Step.{Over, Doing, with_todo, on_values, returned}
 use Rattle.rt_meaning.specs.States.{act, acts, doing, task}
 
-pub returned_none : (v : Option Datum) (callers : List ActNode) (own : List Datum) → None ≡ slice_get callers 0 → Over ≡ returned v (acts callers) own
+pub returned_none : (v : Option Datum) (callers : List ActNode) (own : List Datum) → None ≡ slice_get callers 0 → Over own ≡ returned v (acts callers) own
 returned_none v [] own e = refl
 returned_none v (a ∷ rest) own e = absurd (cc e)
 

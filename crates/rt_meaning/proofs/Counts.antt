@@ -1,5 +1,5 @@
 -- A tick and a service change the number of tasks by nothing; the conditions are renewed one by one.
-use Rattle.std.proofs.Common.{◌≡◌, ℕ, zero, suc, ◌+◌, ◌<◌, ◌≤◌, List, [], ◌∷◌, Option, Some, None, IsSome, IfSome, length, get_or, take, map, refl, sym, ap, subst, ◌∙◌, arith}
+use Rattle.std.proofs.Common.{◌≡◌, ℕ, zero, suc, ◌+◌, ◌<◌, ◌≤◌, List, [], ◌∷◌, Option, Some, None, IsSome, IfSome, length, get_or, take, refl, sym, ap, subst, ◌∙◌, arith}
 use Rattle.std.proofs.Math.ListN.{set}
 use Rattle.rt_rules.specs.declared.task.State.{State}
 use Rattle.rt_rules.specs.declared.task.State.TheVariants.{Ready}
@@ -7,8 +7,8 @@ use Rattle.rt_rules.specs.declared.task.TaskRow.{TaskRow}
 use Rattle.rt_rules.specs.declared.service.Svc.{Svc}
 use Rattle.rt_rules.specs.declared.service.Outcome.{Outcome}
 use Rattle.std.proofs.lemmas.List.{length-map}
-use Rattle.rt_rules.specs.Roster.{Roster, IsNumber, InRanges}
-use Rattle.rt_rules.specs.Rules.{first, awaits_facility, running, with_owner, arrives, becomes, arrives_if, tick, give_to, give, give_if_owned, gives_from, serve}
+use Rattle.rt_rules.specs.Roster.{Roster, InRanges}
+use Rattle.rt_rules.specs.Rules.{first, awaits_facility, running, with_owner, arrives_if, tick, give_to, give, give_if_owned, gives_from, serve}
 use Rattle.rt_rules.proofs.Rows.{if_by, length-with_row, length-arrives}
 use Rattle.rt_rules.proofs.Walks.{gives_from_goes, serve_goes}
 use Rattle.rt_rules.proofs.Raises.{service_raises}

@@ -4,3 +4,4 @@ mod Locals
 mod Others
 mod Steps
 mod Tasks
+mod Touching

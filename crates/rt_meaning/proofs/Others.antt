@@ -1,8 +1,6 @@
 -- A step of one task leaves the others.
-use Rattle.std.proofs.Common.{◌≡◌, ◌≢◌, ℕ, zero, suc, ◌-◌, ◌<◌, List, [], ◌∷◌, slice_get, slice_set, Option, refl, ap, arith}
-use Rattle.rt_resolve.specs.World.{World}
-use Rattle.rt_meaning.specs.Step.{Task}
-use Rattle.rt_meaning.specs.Run.{State, task_in, task_at, stepped}
+use Rattle.std.proofs.Common.{◌≡◌, ◌≢◌, ℕ, zero, suc, ◌-◌, ◌<◌, List, [], ◌∷◌, slice_get, slice_set, refl, ap, arith}
+use Rattle.rt_meaning.specs.Run.{task_in}
 use Rattle.rt_meaning.specs.Laws.{StepsLeaveOthers}
 
 get_other : {A : Type 0} (xs : List A) (i j : ℕ) (x : A) → i ≢ j → slice_get (slice_set xs i x) j ≡ slice_get xs j

@@ -1,8 +1,8 @@
 -- The step of one task in the list of all.
-use Rattle.std.proofs.Common.{◌≡◌, ℕ, zero, suc, ◌+◌, ◌-◌, ◌<◌, ◌≤◌, List, [], ◌∷◌, Option, Some, None, Result, Ok, Err, IfOk, OnErr, length, get_or, slice_get, refl, ap, ◌∙◌, sym, subst, arith}
+use Rattle.std.proofs.Common.{◌≡◌, ℕ, zero, suc, ◌+◌, ◌-◌, ◌<◌, ◌≤◌, List, [], ◌∷◌, Option, Some, Result, Ok, Err, IfOk, OnErr, length, get_or, slice_get, refl, ap, ◌∙◌, sym, subst, arith}
 use Rattle.std.proofs.Math.ListN.{set}
 use Rattle.rt_tree_nodes.specs.declared.step.Step.{Step}
-use Rattle.rt_rules.specs.Roster.{Roster, InRanges}
+use Rattle.rt_rules.specs.Roster.{InRanges}
 use Rattle.rt_rules.specs.Rules.{running}
 use Rattle.rt_meaning.specs.declared.common.Common.{Common}
 use Rattle.rt_resolve.specs.declared.code.ModuleCode.{ModuleCode}

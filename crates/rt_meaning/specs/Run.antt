@@ -1,9 +1,8 @@
 -- The steps and ticks of a source run: the tasks over one store, by the supervisor's rules.
-use Rattle.std.specs.Prelude.{ℕ, ◌+◌, ◌-◌, ◌^◌, min, List, map, Option, Some, None, slice_get, slice_set}
+use Rattle.std.specs.Prelude.{ℕ, ◌+◌, ◌-◌, List, map, Option, Some, None, slice_get, slice_set}
 use Rattle.rt_tree_nodes.specs.declared.step.Step.{Step}
-use Rattle.rt_rules.specs.declared.service.Svc.TheVariants as svc
 use Rattle.rt_rules.specs.declared.service.Outcome.{Outcome}
-use Rattle.rt_rules.specs.declared.service.Outcome.TheVariants.{Go, Waits, Error, Ends}
+use Rattle.rt_rules.specs.declared.service.Outcome.TheVariants.{Go}
 use Rattle.rt_rules.specs.Rules as rules
 use Rattle.rt_rules.specs.Roster.{Roster}
 use Rattle.rt_work.specs.declared.request.Request.{Request}
@@ -29,14 +28,10 @@ pub record Served : Type 0 where
   pub outcome : Outcome
   pub byte : Option ℕ
 
--- the count of bytes taken stays at 2^64 - 1 once it is there
-abbrev pub one_more : ℕ → ℕ
-one_more n = min (n + 1) (2 ^ 64 - 1)
-
 -- RRIN's service gives the next byte, or 4 where none is left
 abbrev pub take : Roster → ℕ → Option ℕ → Served
 take r n None = record { rules = r; taken = n; outcome = Go 4; byte = None }
-take r n (Some b) = record { rules = r; taken = one_more n; outcome = Go b; byte = None }
+take r n (Some b) = record { rules = r; taken = n + 1; outcome = Go b; byte = None }
 
 abbrev pub by_rules : ℕ → rules.Served → Served
 by_rules n (r, o) = record { rules = r; taken = n; outcome = o; byte = None }
@@ -70,7 +65,7 @@ abbrev pub moved : World → Task → Store → Roster → ℕ → ℕ → Optio
 moved w t S r taken i input = moved_after w t S (serve r taken i input (request w t))
 
 abbrev pub task_in : Option Task → Task
-task_in None = Over
+task_in None = Over first_own
 task_in (Some t) = t
 
 abbrev pub task_at : List Task → ℕ → Task

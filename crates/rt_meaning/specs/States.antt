@@ -1,6 +1,5 @@
 -- What the code keeps of a system and of its tasks, as plain data.
-use Rattle.std.specs.Prelude.{◌≡◌, ℕ, Bool, true, false, List, [], ◌∷◌, map, slice_get, Option, Some, None}
-use Rattle.rt_tree_nodes.specs.declared.store.Proc.{Proc}
+use Rattle.std.specs.Prelude.{ℕ, Bool, true, false, List, [], ◌∷◌, map, Option, Some, None}
 use Rattle.rt_tree_nodes.specs.declared.store.Datum.{Datum}
 use Rattle.rt_rules.specs.declared.service.Svc.{Svc}
 use Rattle.rt_rules.specs.declared.service.Outcome.{Outcome}
@@ -18,7 +17,7 @@ use Rattle.rt_meaning.specs.declared.system.Task.{Task as TaskNode}
 use Rattle.rt_resolve.specs.World.{world}
 use Rattle.rt_work.specs.Stores.{Store}
 use Rattle.rt_work.specs.Nodes as n
-use Rattle.rt_work.specs.Task.{Env, Item, Next}
+use Rattle.rt_work.specs.Task.{Item, Next}
 use Rattle.rt_meaning.specs.declared.common.Common.{Common}
 use Rattle.rt_meaning.specs.Step.{Act, Task, Over, Failed, Doing, with_todo, asked, answers, served, act as step_of}
 use Rattle.rt_meaning.specs.Run.{Served, Moved, moved_by, serve}
@@ -27,7 +26,7 @@ use Rattle.rt_tree_nodes.specs.declared.step.Step.{Step}
 -- ---- the tasks
 
 abbrev pub act : ActNode → Act
-act a = record { proc = a.proc; todo = n.items a.scene.todo; values = a.scene.values; locals = a.scene.locals }
+act a = record { proc = a.proc; todo = n.items a.scene.todo; values = a.scene.values; locals = a.scene.locals; kept = a.kept }
 
 abbrev pub acts : List ActNode → List Act
 acts [] = []
@@ -36,13 +35,16 @@ acts (a ∷ rest) = act a ∷ acts rest
 abbrev pub doing : TaskNode → Task
 doing t = Doing (act t.act) (acts t.callers) t.own
 
-abbrev pub task_by : Option Ending → Task → Task
-task_by None t = t
-task_by (Some ending.Over) t = Over
-task_by (Some (ending.Failed k)) t = Failed k
+abbrev pub ended_as : Ending → List Datum → Task
+ended_as ending.Over own = Over own
+ended_as (ending.Failed k) own = Failed k own
+
+abbrev pub task_by : Option Ending → TaskNode → Task
+task_by None t = doing t
+task_by (Some e) t = ended_as e t.own
 
 abbrev pub task : TaskNode → Task
-task t = task_by t.ended (doing t)
+task t = task_by t.ended t
 
 abbrev pub tasks : List TaskNode → List Task
 tasks ts = map task ts
@@ -56,10 +58,6 @@ abbrev pub made : NextNode → Scene → Next
 made x s = n.made x (n.items s.todo) s.values s.locals
 
 -- ---- the steps
-
-abbrev pub ended_as : Ending → Task
-ended_as ending.Over = Over
-ended_as (ending.Failed k) = Failed k
 
 -- where a service that came to this may want memory
 abbrev pub wants_memory : Svc → Outcome → Bool

@@ -75,6 +75,7 @@ fn about_to(alloc: Global, f: Proc) -> Result<Task, Memory>
                 values: Stack::new(alloc),
                 locals: List::from_vec(Vec::new(alloc)),
             },
+            kept: Datum::Word(0),
         },
         callers: Stack::new(alloc),
         own: first_own(alloc)?,

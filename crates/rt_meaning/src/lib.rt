@@ -10,5 +10,7 @@ mod state;
 mod system;
 
 pub use begin::SourceTask;
-pub use laws::{answers_serve, steps_access_one_location, steps_leave_other_tasks};
+pub use laws::{
+    answers_serve, steps_access_one_location, steps_leave_other_tasks, steps_touch_one_location,
+};
 pub use state::SourceState;

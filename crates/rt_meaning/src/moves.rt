@@ -1,6 +1,6 @@
 //! One visible step of a task that has its invisible work behind it. Where there is no memory nothing is changed.
 
-ghost use Rattle.std.specs.Prelude.{◌≡◌, ◌≢◌, ◌^◌, ◌<◌, ◌-◌, IfOk, OnOk, OnErr, Ok, Some, None, Option, ◌∷◌, [], true, false};
+ghost use Rattle.std.specs.Prelude.{◌≡◌, ◌≢◌, ◌^◌, ◌<◌, ◌+◌, ◌-◌, IfOk, OnOk, OnErr, Ok, Some, None, Option, ◌∷◌, [], true, false};
 ghost use Rattle.rt_rules.specs.Rules as rules;
 ghost use Rattle.rt_work.specs.Stores as stores;
 ghost use Rattle.rt_work.specs.Task as work;
@@ -17,7 +17,8 @@ use rt_rules::{Outcome, Svc};
 use rt_tree::{Datum, Location, Proc, Step};
 use rt_words::{List, Memory};
 use rt_work::{
-    Item, ModuleStore, Next, Request, Scene, Stack, copy_values, read, write, write_own,
+    Item, ModuleStore, Next, Request, Scene, Stack, copy_datum, copy_values, read, read_own, write,
+    write_own,
 };
 use std::alloc::Global;
 use std::mem::replace;
@@ -90,14 +91,16 @@ fn calls(
     args: List<Datum>,
 ) -> Made
     ensures made { IfOk result (λ x. x ≡ (Step.Call, None)) }
-    ensures ok { OnOk result (states.doing task.new ≡ step.Doing (step.entered ((world.world modules.now).code f) f args) (states.with_scene task.old.act scene ∷ states.acts task.old.callers) task.old.own) }
+    ensures ok { OnOk result (states.doing task.new ≡ step.Doing (step.entered ((world.world modules.now).code f) f args (stores.erl_in task.old.own)) (states.with_scene task.old.act scene ∷ states.acts task.old.callers) task.old.own) }
     ensures going { task.new.ended ≡ task.old.ended }
     ensures err { OnErr result (task.new ≡ task.old) }
 {
-    let inner = entered(alloc, modules, f, args)?;
+    let kept = read_own(alloc, &task.own, 0)?;
+    let inner = entered(alloc, modules, f, args, kept)?;
     let caller = Act {
         proc: task.act.proc,
         scene,
+        kept: copy_datum(alloc, &task.act.kept)?,
     };
     task.callers.push(caller)?;
     task.act = inner;
@@ -220,7 +223,7 @@ fn gives_answer(service: Svc) -> bool
 }
 
 fn ending_of(service: Svc) -> Ending
-    ensures { states.ended_as result ≡ step.ended_by (Request.Rules service) }
+    ensures { (own : List Datum) → states.ended_as result own ≡ step.ended_by (Request.Rules service) own }
 {
     match service {
         Svc::Gel(error) => Ending::Failed(error),
@@ -289,6 +292,16 @@ fn by_rules(
     settled(alloc, task, todo, service, outcome)
 }
 
+// The count of bytes taken with one more, which has to be below 2^64: more are answered as want of memory.
+fn one_more(taken: u64) -> Result<u64, Memory>
+    ensures { IfOk result (λ n. n ≡ taken + 1) }
+{
+    match taken.checked_add(1) {
+        Some(more) => Ok(more),
+        None => Err(Memory),
+    }
+}
+
 // RRIN takes the next byte of the console; 4 where none is left.
 fn takes(
     alloc: Global,
@@ -306,8 +319,9 @@ fn takes(
 {
     match input {
         Some(byte) => {
+            let taken = one_more(common.taken)?;
             answered(alloc, task, u16::from(byte))?;
-            common.taken = common.taken.saturating_add(1);
+            common.taken = taken;
             Ok(())
         }
         None => {
@@ -364,7 +378,7 @@ fn fails(common: &mut Common, task: &mut Task, error: u16, number: u8) -> Made
     ensures rules { common.new.rules ≡ (rules.serve common.old.rules number (Svc.Gel error)).0 }
     ensures store { common.new.store ≡ common.old.store }
     ensures taken { common.new.taken ≡ common.old.taken }
-    ensures task { states.task task.new ≡ step.Failed error }
+    ensures task { states.task task.new ≡ step.Failed error task.old.own }
 {
     let _ = common.rules.call(Svc::Gel(error));
     task.ended = Some(Ending::Failed(error));

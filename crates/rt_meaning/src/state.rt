@@ -88,7 +88,7 @@ impl SourceState {
         self.common.rules.running()
     }
 
-    /// How many bytes of the console were taken; the count stays at 2^64 - 1 once it is there. It takes no memory.
+    /// How many bytes of the console were taken. It takes no memory.
     pub fn taken(&self) -> u64
         ensures { result ≡ (source.state_of self.now).taken }
     {
@@ -115,8 +115,8 @@ impl SourceState {
     }
 
     /// The next visible step of the running task, and the byte that it puts out. `input` is the next byte of the console, or
-    /// `None` where none is left; only the service of RRIN takes it, and gives 4 for `None`. Where there is no memory the
-    /// state stays as it was.
+    /// `None` where none is left; only the service of RRIN takes it, and gives 4 for `None`. Where there is no memory, or the
+    /// count of bytes taken would come to 2^64, the state stays as it was.
     pub fn step(&mut self, alloc: Global, input: Option<u8>) -> Result<(Step, Option<u8>), Memory>
         requires runs { IsSome (rules.running (source.state_of self.old).rules) }
         requires stamp { (source.state_of self.old).rules.stamp < 2 ^ 63 }

@@ -18,6 +18,8 @@ use std::alloc::Global;
 pub struct Act {
     pub proc: Proc,
     pub scene: Scene,
+    /// What ERL held at its call.
+    pub kept: Datum,
 }
 
 /// How a task has ended.
@@ -27,8 +29,8 @@ pub enum Ending {
     Failed(u16),
 }
 
-/// A task: its innermost activation, the callers of that, and its own supplied data. They mean nothing any more once it
-/// has ended.
+/// A task: its innermost activation, the callers of that, and its own supplied data. The activations mean nothing any more once
+/// it has ended.
 #[derive(Drop)]
 pub struct Task {
     pub ended: Option<Ending>,
@@ -79,14 +81,15 @@ fn service_todo(alloc: Global, trap: u16) -> Result<Stack<Item>, Memory>
     Ok(todo)
 }
 
-/// The activation of a procedure with these arguments.
+/// The activation of a procedure with these arguments, where ERL holds `kept`.
 pub fn entered(
     alloc: Global,
     modules: &List<ModuleCode>,
     f: Proc,
     args: List<Datum>,
+    kept: Datum,
 ) -> Result<Act, Memory>
-    ensures { IfOk result (λ a. states.act a ≡ step.entered ((world.world modules.now).code f) f args) }
+    ensures { IfOk result (λ a. states.act a ≡ step.entered ((world.world modules.now).code f) f args kept) }
 {
     match code_of(modules, f) {
         Some(code) => Ok(Act {
@@ -96,6 +99,7 @@ pub fn entered(
                 values: Stack::new(alloc),
                 locals: locals_of(args, code.size)?,
             },
+            kept,
         }),
         None => Ok(Act {
             proc: f,
@@ -104,6 +108,7 @@ pub fn entered(
                 values: Stack::of(args),
                 locals: List::from_vec(Vec::new(alloc)),
             },
+            kept,
         }),
     }
 }

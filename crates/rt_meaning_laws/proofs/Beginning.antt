@@ -1,5 +1,5 @@
 -- At the start each task fits: it is about to call its root, with its own supplied data.
-use Rattle.std.proofs.Common.{◌≡◌, ◌⊎◌, inl, inr, List, [], ◌∷◌, Option, Some, None, refl, sym, ap, subst, arith}
+use Rattle.std.proofs.Common.{◌≡◌, ◌⊎◌, inl, inr, List, [], ◌∷◌, Option, Some, None, refl, sym, ap, subst}
 use Rattle.std.specs.List.{AllByRecursion}
 use Rattle.rt_modes.specs.declared.mode.Mode.{Mode, out-Mode}
 use Rattle.rt_modes.specs.declared.mode.Mode.TheOpen.{Mode-F}
@@ -7,8 +7,7 @@ use Rattle.rt_tree_nodes.specs.declared.brick.ModuleParts.{ModuleParts}
 use Rattle.rt_tree_nodes.specs.declared.store.Proc.{Proc}
 use Rattle.rt_tree.specs.Modules.{is_here}
 use Rattle.rt_tree.specs.Stored as s
-use Rattle.rt_tree.specs.Stored.{System, TypedOwn}
-use Rattle.rt_work.specs.Stores.{first_own}
+use Rattle.rt_tree.specs.Stored.{System}
 use Rattle.rt_work.specs.Task.{Env}
 use Rattle.rt_resolve.specs.Systems.{world}
 use Rattle.rt_meaning.specs.declared.begin.SourceTask.{SourceTask}
@@ -26,18 +25,11 @@ use Rattle.rt_meaning_laws.specs.Starting.{IsRoot}
 use Rattle.rt_meaning_laws.specs.Systems.{SystemFits}
 use Rattle.rt_meaning_laws.proofs.Modes.{int_is_word}
 use Rattle.rt_meaning_laws.proofs.Nodes.{proc_opens}
+use Rattle.rt_meaning_laws.proofs.Stores.{own_typed}
 use Rattle.rt_meaning_laws.proofs.Soundness.{sound}
 use Rattle.rt_meaning_laws.proofs.Grounding.{module_grounds}
-use Rattle.rt_meaning_laws.proofs.Entering.{no_start, env_is}
-
-pub own_typed : (ps : System) → TypedOwn ps first_own
-own_typed ps = record {
-  erl = refl;
-  ern = (0, omega arith, refl);
-  erp = (s.brick 0 10, s.standard s.rrgel, refl);
-  input = (s.brick 0 1, s.standard s.rrin, refl);
-  output = (s.brick 0 2, s.standard s.rrout, refl);
-}
+use Rattle.rt_meaning_laws.proofs.Entering.{no_start}
+use Rattle.rt_resolve_laws.proofs.Resolved.{env_is}
 
 module _ (ps : System) (fits : SystemFits ps) where
   root_site : ModuleParts → Site
@@ -57,14 +49,14 @@ module _ (ps : System) (fits : SystemFits ps) where
       let p = r.parts in
       let o = proc_opens p (fits.nodes r.home r.has.of) r.number r.brick_is r.mode r.body r.has.at r.sort_is in
       let a = result_of (out-Mode r.mode) r.opens in
-      let grounds : Grounds ps (root_site p) ((world ps).env r.home) = subst (λ (e : Env). Grounds ps (root_site p) e) (sym (env_is ps fits r.home p r.has.of)) (module_grounds ps fits (sound ps fits) r.home (root_site p) r.has.of) in
-      let act : ActFits ps (world ps) (record { proc = s.brick r.home r.number; todo = _; values = []; locals = [] }) [] = record {
+      let grounds : Grounds ps (root_site p) ((world ps).env r.home) = subst (λ (e : Env). Grounds ps (root_site p) e) (sym (env_is ps r.home p r.has.of)) (module_grounds ps fits (sound ps fits) r.home (root_site p) r.has.of) in
+      let act : ActFits ps (world ps) (record { proc = s.brick r.home r.number; todo = _; values = []; locals = []; kept = _ }) [] = record {
         site = root_site p;
         slots = [];
         stays = record { grounds = grounds; labels = λ l k e. absurd cc };
         fits = record {
           has = no_start;
-          fits = (r.mode, a.0, a.1, o.3, (work.of_module r.has (ap is_here r.enters) r.sort_is, refl), (refl, a.2, λ i. tt));
+          fits = (r.mode, a.0, a.1, o.3, (work.of_module r.has (ap is_here r.enters) r.sort_is, refl), (refl, a.2, λ i. tt), refl);
           filled = tt;
           locals = no_locals p;
         };

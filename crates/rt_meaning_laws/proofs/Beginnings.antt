@@ -34,7 +34,7 @@ use Rattle.rt_meaning_laws.specs.Systems.{SystemFits}
 use Rattle.rt_meaning_laws.proofs.Modes.{out_byte, out_array}
 use Rattle.rt_meaning_laws.proofs.Nodes.{brick_fit}
 use Rattle.rt_meaning_laws.proofs.Soundness.{sound}
-use Rattle.rt_meaning_laws.proofs.Links.{number_is, from_one}
+use Rattle.rt_resolve_laws.proofs.Links.{number_is, from_one}
 use Rattle.rt_meaning_laws.proofs.Starts.{items_hold}
 use Rattle.rt_meaning_laws.proofs.Beginning.{tasks_fit}
 use Rattle.rt_meaning_laws.proofs.Small.{right_of}

@@ -30,7 +30,8 @@ use Rattle.rt_meaning_laws.specs.Slots.{IsInt}
 use Rattle.rt_meaning_laws.specs.Trees.{Started, Site, table, mode_of_local, local_mode, number_fits, AreLoops, OwnFits, TermFits, PathFits, CallFits, CondFits, LabelsFit, StmtFits, SeqFits}
 use Rattle.rt_meaning_laws.specs.Named.{TermNamed, CondNamed, LabelsNamed, StmtNamed, SeqNamed}
 use Rattle.rt_meaning_laws.proofs.Modes.{out_int}
-use Rattle.rt_meaning_laws.proofs.Values.{SvcIs, PlaceIs, ValueGood, int_out, suits_fits, svc_read}
+use Rattle.rt_meaning_laws.proofs.Operators.{int_out}
+use Rattle.rt_meaning_laws.proofs.Values.{SvcIs, PlaceIs, ValueGood, suits_fits, svc_read}
 use Rattle.rt_meaning_laws.proofs.Nodings.{value_good, place_good}
 use Rattle.rt_meaning_laws.proofs.Tests.{test_good}
 use Rattle.rt_meaning_laws.proofs.Small.{two_true, passed, with_is, if_some}
@@ -87,13 +88,13 @@ module _ (x : Site) (private_none : (b j : ℕ) (m : Mode) → item_found (faces
       by_mode false e = absurd cc
   assign_by s (Some (Shared w)) (OnPath q) v h e r = by_mode (is_value (out-Mode w)) refl e
     where
-      by_mode : (b : Bool) → is_value (out-Mode w) ≡ b → assigns c (only b w) v ≡ true → (m : Mode) × (is_value (out-Mode m) ≡ true) × (PathFits x s q m ⊎ (OwnFits (table x) q m × MayStand (table x) m)) × TermFits x s (valued c v).tree m
-      by_mode true i e = (w, i, inl (h (Shared w) refl r.0), suits_fits x s w (valued c v) (good s v) e r.1)
+      by_mode : (b : Bool) → is_value (out-Mode w) ≡ b → assigns c (only b w) v ≡ true → (m : Mode) × (is_value (out-Mode m) ≡ true) × (PathFits x s q m ⊎ (OwnFits (table x) q m × MayStand (table x) m)) × TermFits x s (valued c v).tree m × (w ≡ m)
+      by_mode true i e = (w, i, inl (h (Shared w) refl r.0), suits_fits x s w (valued c v) (good s v) e r.1, refl)
       by_mode false i e = absurd cc
   assign_by s (Some (Private w)) (OnPath q) v h e r = by_mode (is_value (out-Mode w)) refl e
     where
-      by_mode : (b : Bool) → is_value (out-Mode w) ≡ b → assigns c (only b w) v ≡ true → (m : Mode) × (is_value (out-Mode m) ≡ true) × (PathFits x s q m ⊎ (OwnFits (table x) q m × MayStand (table x) m)) × TermFits x s (valued c v).tree m
-      by_mode true i e = (w, i, inr (svc_read x s q w i (h (Private w) refl)), suits_fits x s w (valued c v) (good s v) e r.1)
+      by_mode : (b : Bool) → is_value (out-Mode w) ≡ b → assigns c (only b w) v ≡ true → (m : Mode) × (is_value (out-Mode m) ≡ true) × (PathFits x s q m ⊎ (OwnFits (table x) q m × MayStand (table x) m)) × TermFits x s (valued c v).tree m × (w ≡ m)
+      by_mode true i e = (w, i, inr (svc_read x s q w i (h (Private w) refl)), suits_fits x s w (valued c v) (good s v) e r.1, refl)
       by_mode false i e = absurd cc
   assign_by s (Some Loop) t v h e r = absurd cc
   assign_by s (Some (Row w)) t v h e r = absurd cc

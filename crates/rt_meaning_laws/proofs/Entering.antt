@@ -1,5 +1,5 @@
 -- In a system that fits each procedure may be entered.
-use Rattle.std.proofs.Common.{◌≡◌, ◌⊎◌, inl, inr, ℕ, zero, suc, ◌+◌, ◌-◌, ◌≤◌, nat_lt, ◌||◌, Bool, true, false, not, List, [], ◌∷◌, ◌++◌, map, replicate, Option, Some, None, option_map, length, slice_get, refl, sym, ap, ◌∙◌, subst, arith, length-append}
+use Rattle.std.proofs.Common.{◌≡◌, ◌⊎◌, inl, inr, ℕ, zero, suc, ◌+◌, ◌-◌, ◌≤◌, nat_lt, ◌||◌, Bool, true, false, not, List, [], ◌∷◌, ◌++◌, replicate, Option, Some, None, option_map, length, slice_get, refl, sym, ap, ◌∙◌, subst, arith, length-append}
 use Rattle.std.proofs.lemmas.List.{length-replicate}
 use Rattle.std.proofs.lemmas.Bool.Decides.{nat_tests}
 use Rattle.rt_modes.specs.declared.mode.Mode.{Mode, out-Mode}
@@ -22,11 +22,10 @@ use Rattle.rt_tree.specs.Modules.{is_here, body_fits}
 use Rattle.rt_tree.specs.Statements.{starts_at_zero}
 use Rattle.rt_tree.specs.Stored as s
 use Rattle.rt_tree.specs.Stored.{System, HasBrick, module_of}
-use Rattle.rt_work.specs.Nodes as n
-use Rattle.rt_work.specs.Stores.{numbered, datum_in}
+use Rattle.rt_work.specs.Stores.{datum_in}
 use Rattle.rt_work.specs.Task.{Env, Item, Leave, from_label, service}
 use Rattle.rt_resolve.specs.World.{Code, World}
-use Rattle.rt_resolve.specs.Systems.{Resolved, resolved, all_from, system, world, env_in, env_of, code_in, codes_in, brick_code, sort_code, procedure_code}
+use Rattle.rt_resolve.specs.Systems.{world, procedure_code}
 use Rattle.rt_meaning.specs.Step.{entered, leapt, todo_in}
 use Rattle.rt_tree.specs.FullModes.{MayStand}
 use Rattle.rt_meaning_laws.specs.Levels.{of_supplied}
@@ -45,7 +44,7 @@ use Rattle.rt_meaning_laws.proofs.Errors.{taken_stands, given_stands}
 use Rattle.rt_meaning_laws.proofs.Locals.{within_self}
 use Rattle.rt_meaning_laws.proofs.Labels.{FitsFrom, seq_label}
 use Rattle.rt_meaning_laws.proofs.Nodes.{proc_opens}
-use Rattle.rt_meaning_laws.proofs.Links.{number_is as number_of, from_one}
+use Rattle.rt_resolve_laws.proofs.Resolved.{env_is, code_is}
 use Rattle.rt_meaning_laws.proofs.Grounding.{module_grounds}
 use Rattle.rt_meaning_laws.proofs.Soundness.{sound}
 
@@ -108,26 +107,6 @@ module _ (ps : System) (t : ModeTable) where
   loop_local (w ∷ ws) (local.Variable v ∷ ls) (d ∷ ds) k zero f a e = absurd cc
   loop_local (w ∷ ws) (local.Variable v ∷ ls) (d ∷ ds) k (suc i) f a e = loop_local ws ls ds k i f.1 a.1 e
 
--- ---- the world of a system
-
-resolved_at : (ps : List ModuleParts) (m : ℕ) (qs : List ModuleParts) (j i : ℕ) (q : ModuleParts) → slice_get qs j ≡ Some q → i ≡ m + j → slice_get (all_from ps m qs) j ≡ Some (resolved ps i q)
-resolved_at ps m [] j i q e h = absurd cc
-resolved_at ps m (x ∷ qs) zero i q e h =
-    let same : x ≡ q = cc in
-    let num : m ≡ i = omega arith in
-    ap (λ (y : ModuleParts). Some (resolved ps m y)) same ∙ ap (λ (j : ℕ). Some (resolved ps j q)) num
-resolved_at ps m (x ∷ qs) (suc j) i q e h = resolved_at ps (suc m) qs j i q e (omega arith)
-
-module_resolved : (ps : System) (m : ℕ) (p : ModuleParts) → module_of ps m ≡ Some p → numbered (system ps) m ≡ Some (resolved ps m p)
-module_resolved ps m p e =
-    let k = number_of m ps p e in
-    ap (numbered (system ps)) k.1 ∙ resolved_at ps 1 ps k.0 m p k.2 (from_one m k.0 k.1)
-
-code_at : (p : ModuleParts) (bs : List Brick) (b : ℕ) (d : Brick) → slice_get bs b ≡ Some d → code_in (slice_get (map (brick_code (scope_of p)) bs) b) ≡ brick_code (scope_of p) d
-code_at p [] b d e = absurd cc
-code_at p (x ∷ bs) zero d e = let same : x ≡ d = cc in ap (brick_code (scope_of p)) same
-code_at p (x ∷ bs) (suc b) d e = code_at p bs b d e
-
 -- ---- entering
 
 pub no_start : Started
@@ -142,13 +121,6 @@ module _ (ps : System) (fits : SystemFits ps) where
 
   abbrev pub w : World
   w = world ps
-
-  pub env_is : (m : ℕ) (p : ModuleParts) → module_of ps m ≡ Some p → w.env m ≡ n.env (env_of ps m p)
-  env_is m p e = ap env_in (module_resolved ps m p e)
-
-  code_is : {m b : ℕ} {p : ModuleParts} {d : Brick} (v : Mode) (body : ProcBody) → HasBrick ps m b p d → d.sort ≡ sort.Proc v (Some body) → w.code (s.brick m b) ≡ Some (procedure_code (scope_of p) body)
-  code_is {m} {b} {p} {d} v body h e =
-      ap (λ (o : Option Resolved). codes_in o b) (module_resolved ps m p h.of) ∙ code_at p p.bricks b d h.at ∙ ap (sort_code (scope_of p)) e
 
   -- an own or ENT procedure
   module _ (m b : ℕ) (p : ModuleParts) (v : Mode) (body : ProcBody) (ws : List Mode) (o : Option Mode) (labels : ℕ → Option Started) where
@@ -172,8 +144,8 @@ module _ (ps : System) (fits : SystemFits ps) where
         tail (inl h) = inl h
         tail (inr h) = inr (start, within_self start, h)
 
-    begins_fit : (c : Code) (f : Proc) (args : List Datum) → c.size ≡ length body.locals → BodyFits here ws c.body → AreOf ps p.modes ws args → let a = entered (Some c) f args in (ss : List Slot) × Ready ps here a.todo ss a.values a.locals
-    begins_fit c f args z g a =
+    begins_fit : (c : Code) (f : Proc) (args : List Datum) (kept : Datum) → c.size ≡ length body.locals → BodyFits here ws c.body → AreOf ps p.modes ws args → let a = entered (Some c) f args kept in (ss : List Slot) × Ready ps here a.todo ss a.values a.locals
+    begins_fit c f args kept z g a =
         let k : ℕ = c.size - length args in (
           [],
           record {
@@ -205,7 +177,7 @@ module _ (ps : System) (fits : SystemFits ps) where
       let g = fits.bodies h is v body r.0 r.1 so2 r.2 in
       let x : Site = site_of p body r.1 g.0 in
       let c : Code = procedure_code (scope_of p) body in
-      let is_code : Some c ≡ w.code (s.brick m b) = sym (code_is v body h so2) in
+      let is_code : Some c ≡ w.code (s.brick m b) = sym (code_is ps v body h so2) in
       record {
         site = x;
         is = v;
@@ -214,10 +186,10 @@ module _ (ps : System) (fits : SystemFits ps) where
         stands = r.3;
         full_is = refl;
         stays = record {
-          grounds = subst (λ (e : Env). Grounds ps x e) (sym (env_is m p h.of)) (module_grounds ps fits so m x h.of);
+          grounds = subst (λ (e : Env). Grounds ps x e) (sym (env_is ps m p h.of)) (module_grounds ps fits so m x h.of);
           labels = λ l k e. subst (λ (y : Option Code). TodoFits ps x k (leapt y l) []) is_code (label_fits m b p v body r.0 r.1 g.0 c.body g.1 l k e);
         };
-        begins = λ args a. subst (λ (y : Option Code). let z = entered y (s.brick m b) args in (ss : List Slot) × Ready ps x z.todo ss z.values z.locals) is_code (begins_fit m b p v body r.0 r.1 g.0 c (s.brick m b) args refl g.1 a);
+        begins = λ args kept a. subst (λ (y : Option Code). let z = entered y (s.brick m b) args kept in (ss : List Slot) × Ready ps x z.todo ss z.values z.locals) is_code (begins_fit m b p v body r.0 r.1 g.0 c (s.brick m b) args kept refl g.1 a);
       }
 
   -- ---- supplied procedures
@@ -254,7 +226,7 @@ module _ (ps : System) (fits : SystemFits ps) where
     stands = st;
     full_is = refl;
     stays = record { grounds = no_grounds o (w.env 0); labels = λ l i h. absurd cc };
-    begins = λ args a. let z = takes args a in (z.0, record { has = no_start; fits = (refl, z.1, asks); filled = z.2; locals = supplied_locals o });
+    begins = λ args kept a. let z = takes args a in (z.0, record { has = no_start; fits = (refl, z.1, asks); filled = z.2; locals = supplied_locals o });
   }
 
   takes_none : (args : List Datum) → AreOf ps no_records [] args → (ss : List Slot) × ArgumentFits ss × FillAll ps no_records ss args

@@ -6,10 +6,10 @@ use Rattle.rt_modes.specs.FullMode.{FullMode}
 use Rattle.rt_tree_nodes.specs.declared.store.Datum.{Datum}
 use Rattle.rt_tree_nodes.specs.declared.store.Datum.TheVariants.{Word}
 use Rattle.rt_tree.specs.Stored.{System}
-use Rattle.rt_work.specs.Task.{Env, Item, Do, Eval, At, Args, Fetch, Into, Pick, PickRow, Span, Tell, Length, Alter, Merge, Split, Report, Enter, EnterBy, Local, Save, Drop, Compare, Try, AndThen, OrElse, Choose, Decide, Again, CountFor, TurnFor, CountTo, TurnTo, ToLabel, GiveUp, Leave, Begin, Serve, Calls, Jumps, Going, service, serve_then, report_then, turn_for_then, turn_to_then, first_q, first_t, next}
+use Rattle.rt_work.specs.Task.{Env, Item, Do, Eval, At, Args, Fetch, Into, Pick, PickRow, Span, Tell, Length, Alter, Merge, Split, Report, Stand, Enter, EnterBy, Local, Save, Drop, Compare, Try, AndThen, OrElse, Choose, PastElse, Decide, Again, CountFor, TurnFor, CountTo, TurnTo, ToLabel, GiveUp, Leave, Begin, Serve, Calls, Jumps, Going, service, serve_then, report_then, turn_for_then, turn_to_then, first_q, first_t, next}
 use Rattle.rt_meaning_laws.specs.Slots.{IsInt, Slot, AValue, AnOwn, ATruth, FillAll, values_on}
 use Rattle.rt_meaning_laws.specs.Trees.{Started, Site, table, ends}
-use Rattle.rt_meaning_laws.specs.Work.{TodoFits, AnswerFits, AskFits, ArgumentFits, NextFits}
+use Rattle.rt_meaning_laws.specs.Work.{by_value, at_start, TodoFits, AnswerFits, AskFits, ArgumentFits, NextFits}
 use Rattle.rt_meaning_laws.specs.Grounds.{Sound, Grounds}
 use Rattle.rt_meaning_laws.proofs.Modes.{number_is, int_is_number, is_a_word}
 use Rattle.rt_meaning_laws.proofs.Finding.{proc_found}
@@ -27,16 +27,16 @@ module _ (ps : System) (x : Site) (e : Env) (so : Sound ps) (g : Grounds ps x e)
 
   report_goes : (b : Started) (rest : List Item) (ss : List Slot) (n : ℕ) (w a : Mode) → out-Mode w ≡ Mode-F.Proc (a ∷ []) None → IsInt a → n < 65536 → Left b rest ss → Going_on b (AValue w ∷ ss) (report_then n rest)
   report_goes b rest ss n w a o ia r h us ks f l =
-      proc_found ps x w (a ∷ []) None ss us (λ p ws. Calls p (Word n ∷ []) rest ws ks) o f
-      (λ p ws st is f2. (w, a ∷ [], None, o, st, so.candidates (FullMode (table x) w) p is, (number_is ps (table x) a n (int_is_number a ia) r, tt), awaits ps x e so g None b rest ss ws ks h f2 l))
+      proc_found ps x e w (a ∷ []) None ss us (λ p ws. Calls p (Word n ∷ []) rest ws ks) o f
+      (λ p ws st is f2. (w, a ∷ [], None, o, st, so.candidates (FullMode (table x) w) p is, (number_is ps (table x) a n (int_is_number a ia) r, tt), awaits ps x e so g None b rest ss ws ks h f2 l, by_value is))
 
-  served : (rest : List Item) (ss : List Slot) (n : ℕ) → x.locals ≡ [] → ArgumentFits ss → ((k : ℕ) → AskFits x.answer (service n k) rest) → (vs : List Datum) → FillAll ps (table x) ss vs → NextFits ps x (serve_then n rest vs)
+  served : (rest : List Item) (ss : List Slot) (n : ℕ) → x.locals ≡ [] → ArgumentFits ss → ((k : ℕ) → AskFits x.answer (service n k) rest) → (vs : List Datum) → FillAll ps (table x) ss vs → NextFits ps x e (serve_then n rest vs)
   served rest [] n o h a [] f = (o, a 0)
   served rest [] n o h a (v ∷ vs) f = absurd f
   served rest (AValue m ∷ []) n o h a [] f = absurd f
   served rest (AValue m ∷ []) n o h a (v ∷ vs) f =
       let k = is_a_word f.0.0 h in
-      subst (λ (y : Datum). NextFits ps x (serve_then n rest (y ∷ vs))) (sym k.1) (o, a k.0)
+      subst (λ (y : Datum). NextFits ps x e (serve_then n rest (y ∷ vs))) (sym k.1) (o, a k.0)
   served rest (AValue m ∷ (s ∷ ss)) n o h a vs f = absurd h
   served rest (AnOwn m ∷ ss) n o h a vs f = absurd h
   served rest (ATruth ∷ ss) n o h a vs f = absurd h
@@ -58,12 +58,12 @@ module _ (ps : System) (x : Site) (e : Env) (so : Sound ps) (g : Grounds ps x e)
   next_fits (Fetch ∷ rest) b (AValue k ∷ ss) h vs ls f l = fetch_goes ps x e so g b rest ss h.0 k h.1 h.2.0 h.2.1 vs ls f l
   next_fits (Fetch ∷ rest) b (AnOwn m ∷ ss) h vs ls f l = fetch_own_goes ps x e so g b rest ss m h.0 h.1 vs ls f l
   next_fits (Fetch ∷ rest) b _ h vs ls f l = absurd h
-  next_fits (Into n ∷ rest) b (AValue k ∷ ss) h vs ls f l =
+  next_fits (Into p n ∷ rest) b (AValue k ∷ ss) h vs ls f l =
       into_goes ps x e so g b ss (λ us ks. next e rest us ks) k h.0 h.2.1 h.2.0 n h.1 h.2.2 h.2.3 (next_fits rest b _ h.2.4) vs ls f l
-  next_fits (Into n ∷ rest) b _ h vs ls f l = absurd h
-  next_fits (Pick n ∷ rest) b (AValue i ∷ (AValue k ∷ ss)) h vs ls f l =
+  next_fits (Into p n ∷ rest) b _ h vs ls f l = absurd h
+  next_fits (Pick p n ∷ rest) b (AValue i ∷ (AValue k ∷ ss)) h vs ls f l =
       pick_goes ps x e so g b ss (λ us ks. next e rest us ks) n i k h.0 h.2.0 h.2.1 h.1 h.2.2 (next_fits rest b _ h.2.3) vs ls f l
-  next_fits (Pick n ∷ rest) b _ h vs ls f l = absurd h
+  next_fits (Pick p n ∷ rest) b _ h vs ls f l = absurd h
   next_fits (PickRow ∷ rest) b (AValue i ∷ (AValue k ∷ ss)) h vs ls f l = pick_row_goes ps x e so g b ss (λ us ks. next e rest us ks) i k h.0 h.1 h.2 (next_fits rest b _ h.3) vs ls f l
   next_fits (PickRow ∷ rest) b _ h vs ls f l = absurd h
   next_fits (Span n ∷ rest) b (AValue k ∷ ss) h vs ls f l = span_goes ps x e so g b ss (λ us ks. next e rest us ks) n k h.0 h.2.0 h.2.1 h.1 h.2.2 h.2.3 (next_fits rest b _ h.2.4) vs ls f l
@@ -72,7 +72,7 @@ module _ (ps : System) (x : Site) (e : Env) (so : Sound ps) (g : Grounds ps x e)
   next_fits (Tell n ∷ rest) b _ h vs ls f l = absurd h
   next_fits (Length ∷ rest) b (AValue k ∷ ss) h vs ls f l = length_goes ps x e so g b ss (λ us ks. next e rest us ks) k h.0 h.1 h.2 h.3 (next_fits rest b _ h.4) vs ls f l
   next_fits (Length ∷ rest) b _ h vs ls f l = absurd h
-  next_fits (Alter o ∷ rest) b (AValue k ∷ ss) h vs ls f l = alter_goes ps x e so g b ss (λ us ks. next e rest us ks) o k h.0 h.1 h.2 (next_fits rest b _ h.3) vs ls f l
+  next_fits (Alter o ∷ rest) b (AValue k ∷ ss) h vs ls f l = alter_goes ps x e so g b ss (λ us ks. next e rest us ks) o k h.0 h.1 (next_fits rest b _ h.2) vs ls f l
   next_fits (Alter o ∷ rest) b _ h vs ls f l = absurd h
   next_fits (Merge o ∷ rest) b (AValue k ∷ (AValue j ∷ ss)) h vs ls f l = merge_goes ps x e so g b ss (λ us ks. next e rest us ks) o j k h.0 h.1 (next_fits rest b _ h.2) vs ls f l
   next_fits (Merge o ∷ rest) b _ h vs ls f l = absurd h
@@ -80,23 +80,24 @@ module _ (ps : System) (x : Site) (e : Env) (so : Sound ps) (g : Grounds ps x e)
   next_fits (Split o ∷ rest) b _ h vs ls f l = absurd h
   next_fits (Report n ∷ rest) b (AValue w ∷ ss) h vs ls f l = report_goes b rest ss n w h.0 h.1 h.2 h.3 h.4 vs ls f l
   next_fits (Report n ∷ rest) b _ h vs ls f l = absurd h
+  next_fits (Stand n ∷ rest) b ss h vs ls f l = next_fits rest b (AValue h.0 ∷ ss) h.3 (Word n ∷ vs) ls (number_is ps (table x) h.0 n h.1 h.2, f) l
   next_fits (Enter i n ∷ rest) b ss h vs ls f l =
       enter_goes ps x e so g b rest h.3 i n h.0 h.1 h.2 h.4 h.5 h.6 h.8 vs ls (subst (λ (y : List Slot). FillAll ps (table x) y vs) h.7 f) l
   next_fits (EnterBy n ∷ rest) b ss h vs ls f l =
       enter_by_goes ps x e so g b rest h.3 n h.0 h.1 h.2 h.4 h.5 h.7 vs ls (subst (λ (y : List Slot). FillAll ps (table x) y vs) h.6 f) l
   next_fits (Local i ∷ rest) b (AValue m ∷ ss) h vs ls f l = local_goes ps x e so g b h.0 ss m i (λ us ks. next e rest us ks) h.1 h.2 (next_fits rest h.0 ss h.3) vs ls f l
   next_fits (Local i ∷ rest) b _ h vs ls f l = absurd h
-  next_fits (Save ∷ rest) b (AValue m ∷ (AValue k ∷ ss)) h vs ls f l =
+  next_fits (Save p v ∷ rest) b (AValue m ∷ (AValue k ∷ ss)) h vs ls f l =
       let o : out-Mode k ≡ Mode-F.Ref m = h.1 ∙ ap (λ (y : Mode). Mode-F.Ref y) h.2.0 in
       save_goes ps x e so g b rest ss m k o h.2.1 h.2.2 vs ls f l
-  next_fits (Save ∷ rest) b (AValue m ∷ (AnOwn w ∷ ss)) h vs ls f l =
+  next_fits (Save p v ∷ rest) b (AValue m ∷ (AnOwn w ∷ ss)) h vs ls f l =
       let same : AnOwn w ≡ AnOwn m = ap AnOwn h.0 in
       save_own_goes ps x e so g b rest ss m h.1 h.2 vs ls (subst (λ (y : Slot). FillAll ps (table x) (AValue m ∷ y ∷ ss) vs) same f) l
-  next_fits (Save ∷ rest) b _ h vs ls f l = absurd h
+  next_fits (Save p v ∷ rest) b _ h vs ls f l = absurd h
   next_fits (Drop ∷ rest) b (AValue m ∷ ss) h vs ls f l = drop_goes ps x e so g b ss m (λ us ks. next e rest us ks) (next_fits rest b ss h) vs ls f l
   next_fits (Drop ∷ rest) b _ h vs ls f l = absurd h
-  next_fits (Compare r ∷ rest) b (AValue k ∷ (AValue j ∷ ss)) h vs ls f l = compare_goes ps x e so g b ss (λ us ks. next e rest us ks) r j k h.0 (next_fits rest b _ h.1) vs ls f l
-  next_fits (Compare r ∷ rest) b _ h vs ls f l = absurd h
+  next_fits (Compare r y z ∷ rest) b (AValue k ∷ (AValue j ∷ ss)) h vs ls f l = compare_goes ps x e so g b ss (λ us ks. next e rest us ks) r j k h.0 (next_fits rest b _ h.1) vs ls f l
+  next_fits (Compare r y z ∷ rest) b _ h vs ls f l = absurd h
   next_fits (Try t ∷ rest) b ss h vs ls f l = cond_fits ps x e so g t b rest ss (λ us ks. next e rest us ks) h.0 h.1 (next_fits rest b (ATruth ∷ ss) h.1) vs ls f l
   next_fits (AndThen t ∷ rest) b (ATruth ∷ ss) h vs ls f l =
       let k = next_fits rest b (ATruth ∷ ss) h.1 in
@@ -108,9 +109,10 @@ module _ (ps : System) (x : Site) (e : Env) (so : Sound ps) (g : Grounds ps x e)
   next_fits (OrElse t ∷ rest) b _ h vs ls f l = absurd h
   next_fits (Choose c d ∷ rest) b (ATruth ∷ ss) h vs ls f l =
       let k = each b (ends c) (ends d) rest ss (λ us ks. next e rest us ks) h.1 (λ r. next_fits rest b ss r) in
-      choose_goes ps x e so g b ss (λ us ks. first_q e c rest (λ ws ms. next e rest ws ms) us ks) (λ us ks. first_q e d rest (λ ws ms. next e rest ws ms) us ks)
-      (seq_fits ps x e so g c b b rest ss (λ us ks. next e rest us ks) h.0.0 (within_self b) k.0) (seq_fits ps x e so g d b b rest ss (λ us ks. next e rest us ks) h.0.1 (within_self b) k.1) vs ls f l
+      choose_goes ps x e so g b ss (λ us ks. first_q e c (PastElse ∷ rest) (λ ws ms. next e rest ws ms) us ks) (λ us ks. first_q e d rest (λ ws ms. next e rest ws ms) us ks)
+      (seq_fits ps x e so g c b b (PastElse ∷ rest) ss (λ us ks. next e rest us ks) h.0.0 (within_self b) k.0) (seq_fits ps x e so g d b b rest ss (λ us ks. next e rest us ks) h.0.1 (within_self b) k.1) vs ls f l
   next_fits (Choose c d ∷ rest) b _ h vs ls f l = absurd h
+  next_fits (PastElse ∷ rest) b ss h vs ls f l = next_fits rest b ss h vs ls f l
   next_fits (Decide t q ∷ rest) b (ATruth ∷ ss) h vs ls f l =
       let jump : Going_on b ss (λ ws ms. Jumps (Try t ∷ Decide t q ∷ rest) ws ms) = λ us ks f2 l2. awaits ps x e so g None b (Try t ∷ Decide t q ∷ rest) ss us ks (h.0, (h.0, h.1, h.2)) f2 l2 in
       choose_goes ps x e so g b ss (λ us ks. first_q e q (Again t q ∷ rest) (λ ws ms. Jumps (Try t ∷ Decide t q ∷ rest) ws ms) us ks) (λ us ks. next e rest us ks)
@@ -138,5 +140,5 @@ module _ (ps : System) (x : Site) (e : Env) (so : Sound ps) (g : Grounds ps x e)
   next_fits (GiveUp ∷ rest) b (AValue m ∷ ss) h vs ls f l = give_goes ps x e so g b ss m h vs ls f l
   next_fits (GiveUp ∷ rest) b _ h vs ls f l = absurd h
   next_fits (Leave ∷ rest) b ss h vs ls f l = subst (λ (a : Option Mode). AnswerFits ps x a None) (sym h) tt
-  next_fits (Begin p ∷ rest) b ss h vs ls f l = (h.0, [], h.1, h.2, h.3, h.4, tt, awaits ps x e so g h.1 b rest ss vs ls h.5 f l)
+  next_fits (Begin p ∷ rest) b ss h vs ls f l = (h.0, [], h.1, h.2, h.3, h.4, tt, awaits ps x e so g h.1 b rest ss vs ls h.5 f l, at_start h.6)
   next_fits (Serve n ∷ rest) b ss h vs ls f l = served rest ss n h.0 h.1 h.2 vs f

@@ -25,7 +25,8 @@ use Rattle.rt_resolve.specs.Bindings.{bound}
 use Rattle.rt_resolve.specs.Starting.{text_length}
 use Rattle.rt_resolve.specs.Systems.{env_of}
 use Rattle.rt_work.specs.Nodes as n
-use Rattle.rt_work.specs.Nodes.{proc_in as proc_or, item_of, length_in}
+use Rattle.rt_work.specs.Nodes.{proc_in as proc_or, length_in}
+use Rattle.rt_work.specs.Task.{item_of}
 use Rattle.rt_tree.specs.FullModes.{MayStand}
 use Rattle.rt_meaning_laws.specs.Levels.{of_module}
 use Rattle.rt_meaning_laws.specs.Slots.{LeadsTo}
@@ -38,7 +39,7 @@ use Rattle.rt_meaning_laws.proofs.Modes.{out_byte, out_array}
 use Rattle.rt_meaning_laws.proofs.Places.{same_field}
 use Rattle.rt_meaning_laws.proofs.Nodes.{item_may, proc_opens}
 use Rattle.rt_meaning_laws.proofs.Soundness.{proc_sort, stands_call}
-use Rattle.rt_meaning_laws.proofs.Links.{bound_stands, brick_bound}
+use Rattle.rt_resolve_laws.proofs.Links.{bound_stands, brick_bound}
 use Rattle.rt_meaning_laws.proofs.Small.{some_same}
 
 -- ---- the items that all tasks share
@@ -140,7 +141,7 @@ module _ (ps : System) (fits : SystemFits ps) (so : Sound ps) where
     items = λ b i v e.
         let h = shared_item x.parts.bricks b i v e in
         let g : HasBrick ps m b x.parts h.0 = record { of = of; at = h.3 } in
-        let st : StandsFor ps m b (bound ps m b h.0) = bound_stands ps fits g (λ k. absurd (not_svc h.0 h.5 k)) in
+        let st : StandsFor ps m b (bound ps m b h.0) = bound_stands ps fits.matched g (λ k. absurd (not_svc h.0 h.5 k)) in
         subst (λ (f : Proc). LeadsTo ps x.parts.modes v (item_of f i)) (sym (bound_here m b x.parts h.0 h.3)) (item_leads i v h.1 h.2 (bound ps m b h.0) st g h.4 h.5 h.6);
     texts = λ k v w l o b.
         let h = string_there x.parts.strings k l in
@@ -153,12 +154,12 @@ module _ (ps : System) (fits : SystemFits ps) (so : Sound ps) where
         let z = proc_sort x.parts.bricks b d.0 w d.1 e in
         let g : HasBrick ps m b x.parts d.0 = record { of = of; at = d.1 } in
         let o = proc_opens x.parts (fits.nodes m of) b d.0 w z.0 d.1 z.1 in
-        let st : StandsFor ps m b (bound ps m b d.0) = bound_stands ps fits g (λ k. (w, z.0, z.1)) in
+        let st : StandsFor ps m b (bound ps m b d.0) = bound_stands ps fits.matched g (λ k. (w, z.0, z.1)) in
         (o.0, o.1, o.2, o.3, subst (λ (f : Proc). MayCall ps (FullMode x.parts.modes w) f) (sym (bound_here m b x.parts d.0 d.1)) (stands_call ps fits st of e));
     taken_are = λ b w e c.
         let d = proc_there x.parts.bricks b w e in
         let z = proc_sort x.parts.bricks b d.0 w d.1 e in
         let g : HasBrick ps m b x.parts d.0 = record { of = of; at = d.1 } in
-        let st : StandsFor ps m b (bound ps m b d.0) = bound_stands ps fits g (λ k. (w, z.0, z.1)) in
+        let st : StandsFor ps m b (bound ps m b d.0) = bound_stands ps fits.matched g (λ k. (w, z.0, z.1)) in
         subst (λ (f : Proc). IsCandidate ps (FullMode x.parts.modes w) f) (sym (bound_here m b x.parts d.0 d.1)) (s.named of c e refl st);
   }

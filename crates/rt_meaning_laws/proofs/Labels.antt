@@ -3,7 +3,7 @@ use Rattle.std.proofs.Common.{◌≡◌, ◌⊎◌, inl, inr, ℕ, ◌==◌, ◌
 use Rattle.std.proofs.lemmas.Bool.Decides.{nat_tests}
 use Rattle.rt_tree_nodes.specs.Tree.{Stmt, Inner, If, For, To, While, Seq, Done, Then, Mark}
 use Rattle.rt_tree.specs.Stored.{System}
-use Rattle.rt_work.specs.Task.{Item, Do, Again, TurnFor, TurnTo, or_else, here_or, from_label, from_inside}
+use Rattle.rt_work.specs.Task.{Item, Do, PastElse, Again, TurnFor, TurnTo, or_else, here_or, from_label, from_inside}
 use Rattle.rt_meaning_laws.specs.Trees.{Started, Within, Site, behind, StmtFits, SeqFits, stmt_ends, seq_ends, ends}
 use Rattle.rt_meaning_laws.specs.Work.{TodoFits}
 use Rattle.rt_meaning_laws.proofs.Locals.{within_self, within_all}
@@ -74,7 +74,7 @@ module _ (ps : System) (x : Site) where
     stmt_label l (Inner q) b rest todo h t e = seq_label l q b rest todo h (self b (ends q) rest t) e
     stmt_label l (If t c d) b rest todo h r e =
         let each = left_of b (ends c) (ends d) rest r in
-        one_or l (from_label l c rest) (from_label l d rest) todo e (λ y q. seq_label l c b rest y h.1 (self b (ends c) rest each.0) q) (λ y q. seq_label l d b rest y h.2 (self b (ends d) rest each.1) q)
+        one_or l (from_label l c (PastElse ∷ rest)) (from_label l d rest) todo e (λ y q. seq_label l c b (PastElse ∷ rest) y h.1 (self b (ends c) rest each.0) q) (λ y q. seq_label l d b rest y h.2 (self b (ends d) rest each.1) q)
     stmt_label l (For i y z w q) b rest todo h r e = seq_label l q b (TurnFor i q ∷ rest) todo h.7 (inr (b, within_self b, (h.3, h.7, comes b rest r))) e
     stmt_label l (To i n q) b rest todo h r e = seq_label l q b (TurnTo i q ∷ rest) todo h.3 (inr (b, within_self b, (h.1, h.3, comes b rest r))) e
     stmt_label l (While t q) b rest todo h r e = seq_label l q b (Again t q ∷ rest) todo h.1 (inr (b, within_self b, (h.0, h.1, comes b rest r))) e

@@ -1,5 +1,6 @@
 mod Small
 mod Modes
+mod Operators
 mod Finding
 mod Errors
 mod Numbers
@@ -18,7 +19,6 @@ mod Steps
 mod Running
 mod Nodes
 mod Soundness
-mod Links
 mod Grounding
 mod Entering
 mod Starts
@@ -33,3 +33,8 @@ mod Closing
 mod Supplying
 mod Whole
 mod Telling
+mod Enduring
+mod Ending
+mod SourceRuns
+mod Alone
+pub mod Making

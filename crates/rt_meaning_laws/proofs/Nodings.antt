@@ -20,7 +20,7 @@ use Rattle.rt_tree.specs.Taken.{taken}
 use Rattle.rt_meaning_laws.specs.Trees.{Started, Site, number_fits, TermsFit}
 use Rattle.rt_meaning_laws.specs.Named.{TermsNamed}
 use Rattle.rt_meaning_laws.proofs.Modes.{out_int, out_byte, out_row}
-use Rattle.rt_meaning_laws.proofs.Values.{SvcIs, PlaceIs, PlaceGood, ValueGood, CalleeGood, monadic_gives, dyadic_gives, suits_fits, local_place, field_good, subscript_good, led_good, read_good, reference_good, length_good, dyadic_good}
+use Rattle.rt_meaning_laws.proofs.Values.{SvcIs, PlaceIs, PlaceGood, ValueGood, CalleeGood, suits_fits, local_place, field_good, subscript_good, led_good, read_good, reference_good, length_good, dyadic_good}
 use Rattle.rt_meaning_laws.proofs.Small.{two_true, with_is, mapped_is, only_is, none_left}
 
 -- ---- items
@@ -185,7 +185,7 @@ module _ (x : Site) (s : Started) (private_none : (b j : ℕ) (m : Mode) → ite
   value_level (Value-F.Reference p) = record { is = λ m e r. reference_good x s (placed c p.0).found (placed c p.0).tree m p.1 e r; number = λ k e. absurd cc; call = λ o e r. absurd cc; result = λ q e r. absurd cc }
   value_level (Value-F.Length p) = record { is = λ m e r. length_good x s (placed c p.0).found (placed c p.0).tree m p.1 e r; number = λ k e. absurd cc; call = λ o e r. absurd cc; result = λ q e r. absurd cc }
   value_level (Value-F.Monadic o v) = record {
-    is = λ m e r. let k = with_is (valued c v.0).mode (monadic_mode o) m e in let h = monadic_gives o k.0 m k.2 in (k.0, h.0, h.1, v.1.is k.0 k.1 r);
+    is = λ m e r. let k = with_is (valued c v.0).mode (monadic_mode o) m e in (k.0, k.2, v.1.is k.0 k.1 r);
     number = λ k e. absurd cc;
     call = λ q e r. absurd cc;
     result = λ q e r. absurd cc;
@@ -194,7 +194,7 @@ module _ (x : Site) (s : Started) (private_none : (b j : ℕ) (m : Mode) → ite
     is = λ m e r.
         let j = with_is (valued c a.0).mode _ m e in
         let k = with_is (valued c b.0).mode (dyadic_mode o j.0) m j.2 in
-        dyadic_good x s o (valued c a.0).tree (valued c b.0).tree j.0 k.0 m (dyadic_gives o j.0 k.0 m k.2) (λ t. a.1.is j.0 j.1 t) (λ t. b.1.is k.0 k.1 t) r;
+        dyadic_good x s o (valued c a.0).tree (valued c b.0).tree j.0 k.0 m k.2 (λ t. a.1.is j.0 j.1 t) (λ t. b.1.is k.0 k.1 t) r;
     number = λ k e. absurd cc;
     call = λ q e r. absurd cc;
     result = λ q e r. absurd cc;

@@ -17,6 +17,7 @@ use Rattle.rt_meaning.specs.Step.{Task, request}
 use Rattle.rt_meaning_laws.specs.Tasks.{WorldFits, TaskFits}
 use Rattle.rt_meaning.specs.Answers.{MayCome}
 use Rattle.rt_meaning_laws.specs.Runs.{AllFit, NoneLacks, StateFits, IsInput, Happening, a_tick, a_step, state_after, happens, after, MayHappen}
+use Rattle.rt_meaning_laws.proofs.Stores.{own_typed}
 use Rattle.rt_meaning_laws.proofs.Steps.{steps_keep, never_lacks}
 use Rattle.rt_meaning_laws.specs.Laws.{RunsKeep}
 
@@ -62,8 +63,8 @@ ranges_after r n i input (Rules v) e h = subst (λ (o : Option ℕ). InRanges (r
 -- ---- the tasks
 
 module _ (holds_inside : HoldsInside) (holds_written : HoldsWritten) (ps : System) (w : World) where
-  one_fits : (ts : List Task) (k : ℕ) → AllFit ps w ts → TaskFits ps w (task_in (slice_get ts k))
-  one_fits [] k h = tt
+  pub one_fits : (ts : List Task) (k : ℕ) → AllFit ps w ts → TaskFits ps w (task_in (slice_get ts k))
+  one_fits [] k h = own_typed ps
   one_fits (t ∷ ts) zero h = h.0
   one_fits (t ∷ ts) (suc k) h = one_fits ts k h.1
 

@@ -1,5 +1,5 @@
 -- A system that fits is sound: its full modes tell its modes, and its references lead to places that may stand.
-use Rattle.std.proofs.Common.{◌≡◌, inl, inr, ℕ, zero, suc, ◌-◌, ◌<◌, nat_lt, ◌&&◌, Bool, true, false, if◌then◌else◌, List, [], ◌∷◌, Option, Some, None, length, codes, slice_get, refl, sym, ap, ◌∙◌, subst, arith, ◌≤◌}
+use Rattle.std.proofs.Common.{◌≡◌, inl, inr, ℕ, zero, suc, ◌-◌, ◌<◌, nat_lt, ◌&&◌, Bool, true, false, if◌then◌else◌, List, [], ◌∷◌, Option, Some, None, length, slice_get, refl, sym, ap, ◌∙◌, subst, arith, ◌≤◌}
 use Rattle.rt_modes.specs.declared.mode.Mode.{Mode, out-Mode}
 use Rattle.rt_modes.specs.declared.mode.Mode.TheOpen.{Mode-F}
 use Rattle.rt_modes.specs.declared.mode.Mode.TheVariants as mode
@@ -22,7 +22,6 @@ use Rattle.rt_tree.specs.declared.standing.Standing.TheVariants as standing_plac
 use Rattle.rt_tree.specs.Modules.{Stands, stands, is_length, is_here, part_mode, mode_along}
 use Rattle.rt_tree.specs.Stored as s
 use Rattle.rt_tree.specs.Stored.{System, HasBrick, StandsFor, Standard, StandsAt, Suits, IsCandidate, text_mode, module_of}
-use Rattle.rt_resolve.specs.Bindings.{supplied_number}
 use Rattle.rt_tree.specs.FullModes.{MayStand}
 use Rattle.rt_meaning_laws.specs.Levels.{MayBe, IsEmptyString, IsTableOf, of_module, of_supplied}
 use Rattle.rt_resolve.specs.Matching.{no_records}
@@ -40,6 +39,7 @@ use Rattle.rt_meaning_laws.proofs.Places.{array_length, bytes_stand, elements_st
 use Rattle.rt_meaning_laws.proofs.Nodes.{short, field_may, item_may, along_may}
 use Rattle.rt_meaning_laws.proofs.Errors.{erp_full, byte_taking_full, byte_giving_full}
 use Rattle.rt_meaning_laws.proofs.Small.{some_same}
+use Rattle.rt_resolve_laws.proofs.Names.{number_of_name}
 
 -- ---- procedure bricks
 
@@ -61,23 +61,6 @@ same_proc t u w body (sort.Data fs ss) h = absurd h
 same_proc t u w body (sort.Stack n) h = absurd h
 
 -- ---- supplied procedures
-
-named : {x : List ℕ} (y : List ℕ) (k : ℕ) → Some y ≡ Some x → supplied_number y ≡ suc k → supplied_number x ≡ suc k
-named {x} y k e h = let same : y ≡ x = cc in ap supplied_number (sym same) ∙ h
-
--- the number by which a supplied procedure is bound
-pub number_of_name : (k : ℕ) (x : List ℕ) → slice_get s.supplied_names k ≡ Some x → supplied_number x ≡ suc k
-number_of_name zero x e = named (codes "RRIN") 0 e refl
-number_of_name (suc zero) x e = named (codes "RROUT") 1 e refl
-number_of_name (suc (suc zero)) x e = named (codes "DELAY") 2 e refl
-number_of_name (suc (suc (suc zero))) x e = named (codes "WAIT") 3 e refl
-number_of_name (suc (suc (suc (suc zero)))) x e = named (codes "SIGNAL") 4 e refl
-number_of_name (suc (suc (suc (suc (suc zero))))) x e = named (codes "SECURE") 5 e refl
-number_of_name (suc (suc (suc (suc (suc (suc zero)))))) x e = named (codes "RELEASE") 6 e refl
-number_of_name (suc (suc (suc (suc (suc (suc (suc zero))))))) x e = named (codes "CLOCK") 7 e refl
-number_of_name (suc (suc (suc (suc (suc (suc (suc (suc zero)))))))) x e = named (codes "TASKNO") 8 e refl
-number_of_name (suc (suc (suc (suc (suc (suc (suc (suc (suc zero))))))))) x e = named (codes "RRGEL") 9 e refl
-number_of_name (suc (suc (suc (suc (suc (suc (suc (suc (suc (suc k)))))))))) x e = absurd cc
 
 -- the full modes of the procedures that are always candidates
 standard_full : {full : List ℕ} {k : ℕ} → Standard full k → (w : Mode) × IsSupplied k w × (FullMode no_records w ≡ full)

@@ -43,9 +43,8 @@ use Rattle.rt_resolve.specs.Starting as starting
 use Rattle.rt_resolve.specs.Starting.{Home, Starting, lead, array_length, length_found, location_of, leads_by, elements, parts, record_parts, listed, place_start, home_of}
 use Rattle.rt_resolve.specs.Systems.{env_of}
 use Rattle.rt_work.specs.Nodes as n
-use Rattle.rt_work.specs.Nodes.{item_of}
 use Rattle.rt_work.specs.Stores.{deeper}
-use Rattle.rt_work.specs.Task.{in_row}
+use Rattle.rt_work.specs.Task.{item_of, in_row}
 use Rattle.rt_meaning_laws.specs.Levels.{of_module}
 use Rattle.rt_meaning_laws.specs.Slots.{LeadsTo}
 use Rattle.rt_meaning_laws.specs.Trees.{Site}
@@ -54,7 +53,7 @@ use Rattle.rt_meaning_laws.specs.Starting.{one_number, numbers_in}
 use Rattle.rt_meaning_laws.specs.Systems.{SystemFits}
 use Rattle.rt_meaning_laws.proofs.Modes.{out_byte}
 use Rattle.rt_meaning_laws.proofs.Places.{row_of, element_leads, field_leads, elements_stand, rows_stand}
-use Rattle.rt_meaning_laws.proofs.Links.{bound_stands, brick_bound}
+use Rattle.rt_resolve_laws.proofs.Links.{bound_stands, brick_bound}
 use Rattle.rt_meaning_laws.proofs.Grounding.{proc_there, item_leads, bound_here, module_grounds, not_svc}
 use Rattle.rt_meaning_laws.proofs.Small.{left_of, right_of, passed, none_left}
 use Rattle.rt_meaning_laws.proofs.Writing.{parts_out}
@@ -136,7 +135,7 @@ module _ (ps : System) (fits : SystemFits ps) (so : Sound ps) (m : ℕ) (p : Mod
   place_there b j path w e =
       let r = place_of p.bricks b j path w e in
       let has : HasBrick ps m b p r.0 = record { of = of; at = r.4 } in
-      let st : StandsFor ps m b (bound ps m b r.0) = bound_stands ps fits has (λ k. absurd (not_svc ps fits so r.0 r.6 k)) in
+      let st : StandsFor ps m b (bound ps m b r.0) = bound_stands ps fits.matched has (λ k. absurd (not_svc ps fits so r.0 r.6 k)) in
       let item : LeadsTo ps t r.3 (item_of (bound ps m b r.0) j) = item_leads ps fits so j r.3 r.1 r.2 (bound ps m b r.0) st has r.5 r.6 r.7 in
       subst (λ (f : Proc). LeadsTo ps t w (location_of f j path)) (sym (lead_is b r.0 r.4)) (path_leads (origin.Brick (bound ps m b r.0).module (bound ps m b r.0).brick) path (j ∷ []) r.3 w item r.8)
 

@@ -11,7 +11,7 @@ use Rattle.rt_tree.specs.Statements.{starts_at_zero}
 use Rattle.rt_tree.specs.Stored.{System}
 use Rattle.rt_words.specs.Word.{wrap_add}
 use Rattle.rt_work.specs.Numbers.{turns, turns_to}
-use Rattle.rt_work.specs.Task.{Env, Item, Do, Eval, Local, Save, Drop, Choose, Decide, Again, CountFor, TurnFor, CountTo, TurnTo, Try, ToLabel, GiveUp, Jumps, Going, a_word, word_at, local_then, save_then, drop_then, give_up_then, counted, count_by, count_for_then, count_to_then, stepped, turn_by, turn_for_then, turn_to_then, leap_or, nth_label, to_label_then, choose_then, first, first_s, first_q}
+use Rattle.rt_work.specs.Task.{Env, Item, Do, Eval, Local, Save, Drop, Choose, PastElse, Decide, Again, CountFor, TurnFor, CountTo, TurnTo, Try, ToLabel, GiveUp, Jumps, Going, a_word, word_at, local_then, save_then, drop_then, give_up_then, counted, count_by, count_for_then, count_to_then, stepped, turn_by, turn_for_then, turn_to_then, leap_or, nth_label, to_label_then, choose_then, first, first_s, first_q}
 use Rattle.rt_meaning_laws.specs.Slots.{IsInt, Slot, AValue, APlace, AnOwn, IsOf, FillAll}
 use Rattle.rt_meaning_laws.specs.Trees.{Started, Within, and_local, Site, table, local_mode, IsLoop, AreLoops, behind, of_number, LabelFits, LabelsFit, StmtFits, SeqFits, stmt_ends, seq_ends, ends}
 use Rattle.rt_meaning_laws.specs.Work.{TodoFits, LocalsFit, AnswerFits, NextFits}
@@ -42,30 +42,30 @@ module _ (ps : System) (x : Site) (e : Env) (so : Sound ps) (g : Grounds ps x e)
 
   pub local_goes : (b k : Started) (ss : List Slot) (m : Mode) (i : ℕ) (go : Going) → local_mode x i ≡ Some m → Within k (and_local b i) → Going_on k ss go → Going_on b (AValue m ∷ ss) (local_then i go)
   local_goes b k ss m i go lm w go_on us ks f l =
-      value_found ps x m ss us _ f (λ v ws h f2. go_on ws (slice_set ks i v) f2 (weaker ps x (and_local b i) k (slice_set ks i v) (set_local ps x b i m v ks l lm h) w))
+      value_found ps x e m ss us _ f (λ v ws h f2. go_on ws (slice_set ks i v) f2 (weaker ps x (and_local b i) k (slice_set ks i v) (set_local ps x b i m v ks l lm h) w))
 
   pub save_goes : (b : Started) (rest : List Item) (ss : List Slot) (m k : Mode) → out-Mode k ≡ Mode-F.Ref m → is_value (out-Mode m) ≡ true → Left b rest ss → Going_on b (AValue m ∷ AValue k ∷ ss) (save_then rest)
   save_goes b rest ss m k o v r us ks f l =
-      value_found ps x m (AValue k ∷ ss) us _ f (λ d ws h f2.
-      place_found ps x m k ss ws _ o f2 (λ p zs lead f3. (m, v, inl lead, h, awaits ps x e so g None b rest ss zs ks r f3 l)))
+      value_found ps x e m (AValue k ∷ ss) us _ f (λ d ws h f2.
+      place_found ps x e m k ss ws _ o f2 (λ p zs lead f3. (m, v, inl lead, h, awaits ps x e so g None b rest ss zs ks r f3 l)))
 
   pub save_own_goes : (b : Started) (rest : List Item) (ss : List Slot) (m : Mode) → is_value (out-Mode m) ≡ true → Left b rest ss → Going_on b (AValue m ∷ AnOwn m ∷ ss) (save_then rest)
   save_own_goes b rest ss m v r us ks f l =
-      value_found ps x m (AnOwn m ∷ ss) us _ f (λ d ws h f2.
-      own_found ps x m ss ws _ f2 (λ p zs st lead f3. (m, v, inr (st, lead), h, awaits ps x e so g None b rest ss zs ks r f3 l)))
+      value_found ps x e m (AnOwn m ∷ ss) us _ f (λ d ws h f2.
+      own_found ps x e m ss ws _ f2 (λ p zs st lead f3. (m, v, inr (st, lead), h, awaits ps x e so g None b rest ss zs ks r f3 l)))
 
   pub drop_goes : (b : Started) (ss : List Slot) (m : Mode) (go : Going) → Going_on b ss go → Going_on b (AValue m ∷ ss) (drop_then go)
-  drop_goes b ss m go go_on us ks f l = value_found ps x m ss us _ f (λ d ws h f2. go_on ws ks f2 l)
+  drop_goes b ss m go go_on us ks f l = value_found ps x e m ss us _ f (λ d ws h f2. go_on ws ks f2 l)
 
   pub give_goes : (b : Started) (ss : List Slot) (m : Mode) → x.answer ≡ Some m → Going_on b (AValue m ∷ ss) (λ us ks. give_up_then us)
-  give_goes b ss m a us ks f l = value_found ps x m ss us _ f (λ d ws h f2. subst (λ (o : Option Mode). AnswerFits ps x o (Some d)) (sym a) h)
+  give_goes b ss m a us ks f l = value_found ps x e m ss us _ f (λ d ws h f2. subst (λ (o : Option Mode). AnswerFits ps x o (Some d)) (sym a) h)
 
   nth_fits : (b : Started) (ls : List ℕ) (i l : ℕ) → LabelsFit x b ls → slice_get ls i ≡ Some l → LabelFits x b l
   nth_fits b [] i l h q = absurd cc
   nth_fits b (k ∷ ls) zero l h q = let same : k ≡ l = cc in subst (λ (z : ℕ). LabelFits x b z) same h.0
   nth_fits b (k ∷ ls) (suc i) l h q = nth_fits b ls i l h.1 q
 
-  leap_by : (b : Started) (ss : List Slot) (go : Going) (o : Option ℕ) (us ks : List Datum) → ((l : ℕ) → o ≡ Some l → LabelFits x b l) → Going_on b ss go → FillAll ps (table x) ss us → LocalsFit ps x b ks → NextFits ps x (leap_or o go us ks)
+  leap_by : (b : Started) (ss : List Slot) (go : Going) (o : Option ℕ) (us ks : List Datum) → ((l : ℕ) → o ≡ Some l → LabelFits x b l) → Going_on b ss go → FillAll ps (table x) ss us → LocalsFit ps x b ks → NextFits ps x e (leap_or o go us ks)
   leap_by b ss go None us ks h go_on f l = go_on us ks f l
   leap_by b ss go (Some n) us ks h go_on f l = let fits = h n refl in (fits.0, fits.1, weaker ps x b fits.0 ks l fits.2)
 
@@ -74,7 +74,7 @@ module _ (ps : System) (x : Site) (e : Env) (so : Sound ps) (g : Grounds ps x e)
   label_at b ls (suc i) l h q = nth_fits b ls i l h q
 
   pub label_goes : (b : Started) (ss : List Slot) (m : Mode) (ls : List ℕ) (go : Going) → IsInt m → LabelsFit x b ls → Going_on b ss go → Going_on b (AValue m ∷ ss) (to_label_then ls go)
-  label_goes b ss m ls go im h go_on us ks f l = word_found ps x m ss us _ (int_is_word m im) f (λ i ws r f2. leap_by b ss go (nth_label i ls) ws ks (λ n q. label_at b ls i n h q) go_on f2 l)
+  label_goes b ss m ls go im h go_on us ks f l = word_found ps x e m ss us _ (int_is_word m im) f (λ i ws r f2. leap_by b ss go (nth_label i ls) ws ks (λ n q. label_at b ls i n h q) go_on f2 l)
 
   -- ---- loops
 
@@ -82,7 +82,7 @@ module _ (ps : System) (x : Site) (e : Env) (so : Sound ps) (g : Grounds ps x e)
   set_loop b i n ks h r l = weaker ps x (and_local b i) b (slice_set ks i (Word n)) (set_local ps x b i mode.Int (Word n) ks l (loop_mode x i mode.Int h out_int) (number_is ps (table x) mode.Int n (int_is_number mode.Int out_int) r)) (within_more b i)
 
   counted_goes : (b : Started) (ss : List Slot) (i n : ℕ) (out into : Going) (us ks : List Datum) → IsLoop x (i + 2) → n ≤ 65536 → Going_on b ss out → Going_on b ss into → FillAll ps (table x) ss us → LocalsFit ps x b ks
-      → NextFits ps x (counted i n out into us ks)
+      → NextFits ps x e (counted i n out into us ks)
   counted_goes b ss i zero out into us ks h r ho hi f l = ho us ks f l
   counted_goes b ss i (suc n) out into us ks h r ho hi f l = hi us (slice_set ks (i + 2) (Word n)) f (set_loop b (i + 2) n ks h (omega arith) l)
 
@@ -94,21 +94,21 @@ module _ (ps : System) (x : Site) (e : Env) (so : Sound ps) (g : Grounds ps x e)
   count_for_goes b ss m i out into im h ho hi us ks f l =
       let first_word = held b i ks h.0 l in
       let step_word = held b (i + 1) ks h.1 l in
-      word_found ps x m ss us _ (int_is_word m im) f (λ n ws r f2.
-      subst (λ (o : Option ℕ). NextFits ps x (count_by i o (word_at ks (i + 1)) n out into ws ks)) (sym first_word.1)
-      (subst (λ (o : Option ℕ). NextFits ps x (count_by i (Some first_word.0) o n out into ws ks)) (sym step_word.1)
+      word_found ps x e m ss us _ (int_is_word m im) f (λ n ws r f2.
+      subst (λ (o : Option ℕ). NextFits ps x e (count_by i o (word_at ks (i + 1)) n out into ws ks)) (sym first_word.1)
+      (subst (λ (o : Option ℕ). NextFits ps x e (count_by i (Some first_word.0) o n out into ws ks)) (sym step_word.1)
       (counted_goes b ss i (turns first_word.0 step_word.0 n) out into ws ks h.2 (turns_below first_word.0 step_word.0 n first_word.2 r) ho hi f2 l)))
 
   pub count_to_goes : (b : Started) (ss : List Slot) (m : Mode) (i : ℕ) (out into : Going) → IsInt m → AreLoops x i → Going_on b ss out → Going_on b ss into → Going_on b (AValue m ∷ ss) (count_to_then i out into)
-  count_to_goes b ss m i out into im h ho hi us ks f l = word_found ps x m ss us _ (int_is_word m im) f (λ n ws r f2. counted_goes b ss i (turns_to n) out into ws ks h.2 (turns_to_below n r) ho hi f2 l)
+  count_to_goes b ss m i out into im h ho hi us ks f l = word_found ps x e m ss us _ (int_is_word m im) f (λ n ws r f2. counted_goes b ss i (turns_to n) out into ws ks h.2 (turns_to_below n r) ho hi f2 l)
 
   turn_goes : (b : Started) (ss : List Slot) (i : ℕ) (again : List Item) (go : Going) (us ks next : List Datum) → AreLoops x i → Left b again ss → Going_on b ss go → FillAll ps (table x) ss us → LocalsFit ps x b ks → LocalsFit ps x b next
-      → NextFits ps x (turn_by i (word_at ks (i + 2)) again go us ks next)
+      → NextFits ps x e (turn_by i (word_at ks (i + 2)) again go us ks next)
   turn_goes b ss i again go us ks next h r go_on f l ln =
       let left_word = held b (i + 2) ks h.2 l in
-      subst (λ (o : Option ℕ). NextFits ps x (turn_by i o again go us ks next)) (sym left_word.1) (turn left_word.0 left_word.2)
+      subst (λ (o : Option ℕ). NextFits ps x e (turn_by i o again go us ks next)) (sym left_word.1) (turn left_word.0 left_word.2)
     where
-      turn : (n : ℕ) → n < 65536 → NextFits ps x (turn_by i (Some n) again go us ks next)
+      turn : (n : ℕ) → n < 65536 → NextFits ps x e (turn_by i (Some n) again go us ks next)
       turn zero q = go_on us ks f l
       turn (suc n) q = awaits ps x e so g None b again ss us (slice_set next (i + 2) (Word n)) r f (set_loop b (i + 2) n next h.2 (omega arith) ln)
 
@@ -166,10 +166,10 @@ module _ (ps : System) (x : Site) (e : Env) (so : Sound ps) (g : Grounds ps x e)
     stmt_fits (Put w q v) b rest ss go h o vs ls f l =
         let k = comes b rest ss go o in
         elim h.2 [
-          | inl p ↦ path_fits ps x e so g q h.0 b (Eval v ∷ Save ∷ rest) ss (λ us ks. first e v (Save ∷ rest) (save_then rest) us ks) p (h.0, h.3, (h.0, out_ref h.0, (refl, h.1, k.0)))
-              (term_fits ps x e so g v h.0 b (Save ∷ rest) (APlace h.0 ∷ ss) (save_then rest) h.3 (h.0, out_ref h.0, (refl, h.1, k.0)) (save_goes b rest ss h.0 (mode.Ref h.0) (out_ref h.0) h.1 k.0)) vs ls f l
-          | inr p ↦ own ps x e so g q h.0 b ss (λ us ks. first e v (Save ∷ rest) (save_then rest) us ks) (Eval v ∷ Save ∷ rest) p.0 p.1
-              (term_fits ps x e so g v h.0 b (Save ∷ rest) (AnOwn h.0 ∷ ss) (save_then rest) h.3 (refl, h.1, k.0) (save_own_goes b rest ss h.0 h.1 k.0)) vs ls f l
+          | inl p ↦ path_fits ps x e so g q h.0 b (Eval v ∷ Save q v ∷ rest) ss (λ us ks. first e v (Save q v ∷ rest) (save_then rest) us ks) p (h.0, h.3, (h.0, out_ref h.0, (refl, h.1, k.0)))
+              (term_fits ps x e so g v h.0 b (Save q v ∷ rest) (APlace h.0 ∷ ss) (save_then rest) h.3 (h.0, out_ref h.0, (refl, h.1, k.0)) (save_goes b rest ss h.0 (mode.Ref h.0) (out_ref h.0) h.1 k.0)) vs ls f l
+          | inr p ↦ own ps x e so g q h.0 b ss (λ us ks. first e v (Save q v ∷ rest) (save_then rest) us ks) (Eval v ∷ Save q v ∷ rest) p.0 p.1
+              (term_fits ps x e so g v h.0 b (Save q v ∷ rest) (AnOwn h.0 ∷ ss) (save_then rest) h.3 (refl, h.1, k.0) (save_own_goes b rest ss h.0 h.1 k.0)) vs ls f l
         ]
     stmt_fits (Run v) b rest ss go h o vs ls f l = call_fits ps x e so g v None b rest ss go h (comes b rest ss go o).0 vs ls f l
     stmt_fits (Toss v) b rest ss go h o vs ls f l =
@@ -184,8 +184,8 @@ module _ (ps : System) (x : Site) (e : Env) (so : Sound ps) (g : Grounds ps x e)
     stmt_fits (Inner q) b rest ss go h o vs ls f l = seq_fits q b b rest ss go h (within_self b) o vs ls f l
     stmt_fits (If t c d) b rest ss go h o vs ls f l =
         let each = apart b (ends c) (ends d) rest ss go o in
-        cond_fits ps x e so g t b (Choose c d ∷ rest) ss (choose_then (λ us ks. first_q e c rest go us ks) (λ us ks. first_q e d rest go us ks)) h.0 ((h.1, h.2), chosen_left b (ends c) (ends d) rest ss go o)
-        (choose_goes ps x e so g b ss (λ us ks. first_q e c rest go us ks) (λ us ks. first_q e d rest go us ks) (seq_fits c b b rest ss go h.1 (within_self b) each.0) (seq_fits d b b rest ss go h.2 (within_self b) each.1)) vs ls f l
+        cond_fits ps x e so g t b (Choose c d ∷ rest) ss (choose_then (λ us ks. first_q e c (PastElse ∷ rest) go us ks) (λ us ks. first_q e d rest go us ks)) h.0 ((h.1, h.2), chosen_left b (ends c) (ends d) rest ss go o)
+        (choose_goes ps x e so g b ss (λ us ks. first_q e c (PastElse ∷ rest) go us ks) (λ us ks. first_q e d rest go us ks) (seq_fits c b b (PastElse ∷ rest) ss go h.1 (within_self b) each.0) (seq_fits d b b rest ss go h.2 (within_self b) each.1)) vs ls f l
     stmt_fits (For i y z w q) b rest ss go h o vs ls f l =
         let k = comes b rest ss go o in
         let loops = h.3 in

@@ -20,7 +20,7 @@ use Rattle.rt_tree.specs.Stored as s
 use Rattle.rt_tree.specs.Stored.{System, StandsAt, Suits, TypedOwn, HoldsInside, HoldsWritten}
 use Rattle.rt_work.specs.declared.request.Request.{Request}
 use Rattle.rt_work.specs.declared.request.Request.TheVariants.{Nothing, Takes, Puts, Rules}
-use Rattle.rt_work.specs.Stores.{Store, read, write, write_own, erp}
+use Rattle.rt_work.specs.Stores.{Store, read, write, write_own, erp, erl_in}
 use Rattle.rt_work.specs.Task.{Item, Fetch, Report, GiveUp, Leave, Next, Reads, Writes, Calls, Returns, Jumps, Leaps, Asks, Recovers, Errors, Lacks}
 use Rattle.rt_resolve.specs.World.{Code, World}
 use Rattle.rt_meaning.specs.Step.{Act, Task, Over, Failed, Doing, After, with_todo, entered, on_values, returned, leapt, served, act, next_of, asked}
@@ -74,7 +74,7 @@ module _ (holds_inside : HoldsInside) (holds_written : HoldsWritten) (ps : Syste
 
   -- a caller goes on with the result
   back : (y : Site) (callers : List Act) (own : List Datum) (v : Option Datum) → AnswerFits ps y y.answer v → CallersFit ps w y callers → IsTableOf ps (table y) → TypedOwn ps own → TaskFits ps w (returned v callers own)
-  back y [] own v h cs k g = tt
+  back y [] own v h cs k g = g
   back y (a ∷ callers) own v h cs k g =
       let r = result_passes ps so y cs.0.site cs.0.answer v k cs.0.stays.grounds.known cs.0.gives h in
       doing cs.0.site a callers own a.todo (on_values v a.values) a.locals cs.0.stays cs.1 g (goes_on cs.0.site cs.0.answer a.todo a.values a.locals v r cs.0.fits)
@@ -125,9 +125,9 @@ module _ (holds_inside : HoldsInside) (holds_written : HoldsWritten) (ps : Syste
       by_request (Rules svc.Clock) _ h m = absurd m
       by_request (Rules svc.TaskNo) (Go n) h m = given n h.0 h.1 (number_is ps (table x) h.0 n (int_is_number h.0 h.2) m)
       by_request (Rules svc.TaskNo) _ h m = absurd m
-      by_request (Rules (svc.Gel n)) Ends h m = tt
+      by_request (Rules (svc.Gel n)) Ends h m = g
       by_request (Rules (svc.Gel n)) _ h m = absurd m
-      by_request (Rules svc.End) Ends h m = tt
+      by_request (Rules svc.End) Ends h m = g
       by_request (Rules svc.End) _ h m = absurd m
       by_request (Puts n) (Go k) h m = goes h.0 h.1
       by_request (Puts n) _ h m = absurd m
@@ -136,9 +136,9 @@ module _ (holds_inside : HoldsInside) (holds_written : HoldsWritten) (ps : Syste
       by_request (Rules s) (Error n) h m = fails n m h.0 h.1
       by_request (Rules s) Ends h m = absurd m
 
-  entered_proc : (c : Option Code) (f : Proc) (args : List Datum) → (entered c f args).proc ≡ f
-  entered_proc None f args = refl
-  entered_proc (Some c) f args = refl
+  entered_proc : (c : Option Code) (f : Proc) (args : List Datum) (kept : Datum) → (entered c f args kept).proc ≡ f
+  entered_proc None f args kept = refl
+  entered_proc (Some c) f args kept = refl
 
   -- what a write leaves of the store and of the task's own data
   kept_by : (x : Site) (m : Mode) (l : Location) (d : Datum) (own : List Datum) (S : Store) → IsPlace ps x m l → IsTableOf ps (table x) → IsOf ps (table x) m d → TypedOwn ps own → TypedStore ps S → TypedStore ps (write S l d) × TypedOwn ps (write_own own l d)
@@ -147,7 +147,7 @@ module _ (holds_inside : HoldsInside) (holds_written : HoldsWritten) (ps : Syste
   kept_by x m (location.Own i) d own S (inr p) k h g t = (t, own_written ps (table x) own i m d g p.1 h.0)
   kept_by x m (location.Shared o path) d own S (inr p) k h g t = absurd p.1
 
-  act_keeps : (x : Site) (n : Next) (a : Act) (callers : List Act) (own : List Datum) (S : Store) (o : Outcome) → length a.locals ≡ length x.locals → NextFits ps x n → MayCome (asked n) o → IsAt ps w a.proc x → CallersFit ps w x callers → TypedOwn ps own → TypedStore ps S
+  act_keeps : (x : Site) (n : Next) (a : Act) (callers : List Act) (own : List Datum) (S : Store) (o : Outcome) → length a.locals ≡ length x.locals → NextFits ps x (w.env a.proc.module) n → MayCome (asked n) o → IsAt ps w a.proc x → CallersFit ps w x callers → TypedOwn ps own → TypedStore ps S
       → Kept (act w n a callers own S o)
   act_keeps x (Reads l todo vs ls) a callers own S o c h m at cs g t =
       let d : IsOf ps (table x) h.0 (read S own l) = elim h.2 [
@@ -170,8 +170,8 @@ module _ (holds_inside : HoldsInside) (holds_written : HoldsWritten) (ps : Syste
       let procs : EachSame (table x) (table y) h.1 e.parameters × AnySame (table x) (table y) h.2 y.answer = subst (λ (l : Mode-F Mode). LevelSame (table x) (table y) (Mode-F.Proc h.1 h.2) l) e.opens (subst (λ (l : Mode-F Mode). LevelSame (table x) (table y) l (out-Mode e.is)) h.3 level) in
       let there = parts_stand (table y) e.is e.parameters y.answer e.opens e.stands in
       let here = parts_stand (table x) h.0 h.1 h.2 h.3 h.4 in
-      let begins = e.begins args (values_pass ps so (table x) (table y) at.grounds.known e.stays.grounds.known h.1 e.parameters args here.0 there.0 procs.0 h.6) in
-      let stays : IsAt ps w (entered (w.code f) f args).proc y = subst (λ (p : Proc). IsAt ps w p y) (sym (entered_proc (w.code f) f args)) e.stays in
+      let begins = e.begins args (erl_in own) (values_pass ps so (table x) (table y) at.grounds.known e.stays.grounds.known h.1 e.parameters args here.0 there.0 procs.0 h.6) in
+      let stays : IsAt ps w (entered (w.code f) f args (erl_in own)).proc y = subst (λ (p : Proc). IsAt ps w p y) (sym (entered_proc (w.code f) f args (erl_in own))) e.stays in
       let waits : WaitsFor ps w y (with_todo a todo vs ls) = record { site = x; answer = h.2; gives = answers_as ps so y x h.2 y.answer refl here.1 there.1 procs.1; stays = at; fits = h.7 } in
       (t, (record { site = y; slots = begins.0; stays = stays; fits = begins.1; callers_fit = (waits, cs) }, g))
   act_keeps x (Returns v) a callers own S o c h m at cs g t = (t, back x callers own v h cs at.grounds.known g)
@@ -180,20 +180,20 @@ module _ (holds_inside : HoldsInside) (holds_written : HoldsWritten) (ps : Syste
       (t, doing x a callers own (leapt (w.code a.proc) l) [] ls at cs g ([], record { has = h.0; fits = at.labels l h.0 h.1; filled = tt; locals = h.2 }))
   act_keeps x (Asks r todo) a callers own S o c h m at cs g t = (t, asks x r todo a callers own o h.0 c h.1 m at cs g)
   act_keeps x (Recovers l todo vs ls) a callers own S o c h m at cs g t = (t, doing x a callers own todo vs ls at cs g (goes_on x None todo vs ls None tt h))
-  act_keeps x (Errors n) a callers own S o c h m at cs g t = (t, tt)
+  act_keeps x (Errors n) a callers own S o c h m at cs g t = (t, g)
   act_keeps x Lacks a callers own S o c h m at cs g t = absurd h
 
-next_fits_of : (ps : System) (w : World) (wf : WorldFits ps w) (a : Act) (callers : List Act) (h : ActFits ps w a callers) → NextFits ps h.site (next_of w a)
+next_fits_of : (ps : System) (w : World) (wf : WorldFits ps w) (a : Act) (callers : List Act) (h : ActFits ps w a callers) → NextFits ps h.site (w.env a.proc.module) (next_of w a)
 next_fits_of ps w wf a callers h = next_fits ps h.site (w.env a.proc.module) wf.sound h.stays.grounds a.todo h.fits.has h.slots h.fits.fits a.values a.locals h.fits.filled h.fits.locals
 
 pub never_lacks : (ps : System) (w : World) (wf : WorldFits ps w) (t : Task) → TaskFits ps w t → NeverLacks w t
-never_lacks ps w wf Over h = tt
-never_lacks ps w wf (Failed n) h = tt
-never_lacks ps w wf (Doing a callers own) h = λ e. subst (λ (z : Next). NextFits ps h.0.site z) e (next_fits_of ps w wf a callers h.0)
+never_lacks ps w wf (Over own) h = tt
+never_lacks ps w wf (Failed n own) h = tt
+never_lacks ps w wf (Doing a callers own) h = λ e. subst (λ (z : Next). NextFits ps h.0.site (w.env a.proc.module) z) e (next_fits_of ps w wf a callers h.0)
 
 pub steps_keep : HoldsInside → HoldsWritten → StepsKeep
-steps_keep holds_inside holds_written ps w Over S o wf t h m = (tt, t, tt)
-steps_keep holds_inside holds_written ps w (Failed n) S o wf t h m = (tt, t, tt)
+steps_keep holds_inside holds_written ps w (Over own) S o wf t h m = (tt, t, h)
+steps_keep holds_inside holds_written ps w (Failed n own) S o wf t h m = (tt, t, h)
 steps_keep holds_inside holds_written ps w (Doing a callers own) S o wf t h m =
     let k = act_keeps holds_inside holds_written ps w wf h.0.site (next_of w a) a callers own S o h.0.fits.locals.count (next_fits_of ps w wf a callers h.0) m h.0.stays h.0.callers_fit h.1 t in
     (never_lacks ps w wf (Doing a callers own) h, k.0, k.1)

@@ -1,5 +1,5 @@
 -- What is read in a typed store is of the mode of its place, and a typed store stays typed where such a value is written.
-use Rattle.std.proofs.Common.{◌≡◌, inl, ℕ, zero, suc, true, false, List, ◌∷◌, Option, Some, slice_get, refl, sym, ap, ◌∙◌, subst}
+use Rattle.std.proofs.Common.{◌≡◌, inl, ℕ, zero, suc, true, false, List, ◌∷◌, Option, Some, slice_get, refl, sym, ap, ◌∙◌, subst, arith}
 use Rattle.rt_modes.specs.declared.mode.Field.{Field}
 use Rattle.rt_modes.specs.declared.mode.Mode.{Mode, out-Mode}
 use Rattle.rt_modes.specs.declared.mode.Mode.TheOpen.{Mode-F}
@@ -15,7 +15,7 @@ use Rattle.rt_tree_nodes.specs.Scopes.{field_at}
 use Rattle.rt_tree_nodes.specs.Typing.{is_value}
 use Rattle.rt_tree.specs.Stored as s
 use Rattle.rt_tree.specs.Stored.{System, StandsAt, Suits, Holds, HoldAll, HoldEach, Typed, TypedOwn, IsCandidate, part, part_of, inside, change_found, changed, with_part, written, HoldsInside}
-use Rattle.rt_work.specs.Stores.{Store, datum_in, datum_at, datum_of, origin_in, read}
+use Rattle.rt_work.specs.Stores.{Store, datum_in, datum_at, datum_of, origin_in, read, first_own}
 use Rattle.rt_tree.specs.FullModes.{MayStand}
 use Rattle.rt_tree.specs.Opened.{LevelSame}
 use Rattle.rt_meaning_laws.specs.Levels.{MayBe, IsTableOf}
@@ -24,6 +24,16 @@ use Rattle.rt_meaning_laws.specs.Slots as slots
 use Rattle.rt_meaning_laws.specs.Grounds.{Sound}
 use Rattle.rt_meaning_laws.specs.Tasks.{TypedStore}
 use Rattle.rt_meaning_laws.proofs.Places.{of_suits}
+
+-- the data that each task has at the start
+pub own_typed : (ps : System) → TypedOwn ps first_own
+own_typed ps = record {
+  erl = refl;
+  ern = (0, omega arith, refl);
+  erp = (s.brick 0 10, s.standard s.rrgel, refl);
+  input = (s.brick 0 1, s.standard s.rrin, refl);
+  output = (s.brick 0 2, s.standard s.rrout, refl);
+}
 
 -- ---- the same value in another module
 

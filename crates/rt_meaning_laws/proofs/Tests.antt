@@ -1,59 +1,22 @@
 -- Conditions that fit as nodes fit as plain trees.
-use Rattle.std.proofs.Common.{◌≡◌, ℕ, nat_le, ◌&&◌, ◌||◌, Bool, true, false, List, [], ◌∷◌, map, Some, length, refl, sym, ◌∙◌, subst, arith}
+use Rattle.std.proofs.Common.{◌≡◌, ℕ, nat_le, true, List, [], ◌∷◌, map, Some, length, refl, sym, ◌∙◌, subst, arith}
 use Rattle.std.specs.List.{Contains}
 use Rattle.std.proofs.lemmas.Bool.Decides.{nat_tests}
-use Rattle.rt_modes.specs.declared.mode.Mode.{Mode, out-Mode}
-use Rattle.rt_modes.specs.declared.mode.Mode.TheOpen.{Mode-F}
-use Rattle.rt_tree_nodes.specs.declared.operators.Rel.{Rel}
-use Rattle.rt_tree_nodes.specs.declared.operators.Rel.TheVariants as rel
+use Rattle.rt_modes.specs.declared.mode.Mode.{Mode}
 use Rattle.rt_tree_nodes.specs.declared.statement.Test.{Test, out-Test, roll-Test, map-Test}
 use Rattle.rt_tree_nodes.specs.declared.statement.Test as tests
 use Rattle.rt_tree_nodes.specs.declared.statement.Test.TheFolds.{ind-Test, fold_out-Test}
 use Rattle.rt_tree_nodes.specs.declared.statement.Test.TheOpen.{Test-F}
-use Rattle.rt_tree_nodes.specs.Scopes.{Scope, passes, same, faces, svc_mode, scope_of, with_locals}
+use Rattle.rt_tree_nodes.specs.Scopes.{Scope, passes, faces, svc_mode, scope_of, with_locals}
 use Rattle.rt_tree_nodes.specs.Tree.{Both, Either}
-use Rattle.rt_tree_nodes.specs.Typing.{Private, item_found, is_int, is_frac, both, is_reference, compare_fits, valued}
-use Rattle.rt_tree_nodes.proofs.Same.{same_equal}
+use Rattle.rt_tree_nodes.specs.Typing.{Private, item_found, compare_fits, valued}
 use Rattle.rt_tree.specs.Statements.{Tested, all_fit, joined_by, one_test, tested}
 use Rattle.rt_tree.specs.Taken.{taken}
-use Rattle.rt_meaning_laws.specs.Trees.{Started, Site, of_number, alike, CondFits}
+use Rattle.rt_meaning_laws.specs.Trees.{Started, Site, CondFits}
 use Rattle.rt_meaning_laws.specs.Named.{CondNamed}
-use Rattle.rt_meaning_laws.proofs.Values.{SvcIs, int_number, frac_number}
+use Rattle.rt_meaning_laws.proofs.Values.{SvcIs}
 use Rattle.rt_meaning_laws.proofs.Nodings.{value_good}
 use Rattle.rt_meaning_laws.proofs.Small.{two_true, passed}
-
-numbers_alike : (l n : Mode-F Mode) → of_number l ≡ true → of_number n ≡ true → alike l n ≡ true
-numbers_alike Mode-F.Int n h g = g
-numbers_alike Mode-F.Frac n h g = g
-numbers_alike _ n h g = absurd cc
-
-references_alike : (l : Mode-F Mode) → is_reference l ≡ true → alike l l ≡ true
-references_alike (Mode-F.Ref m) h = refl
-references_alike (Mode-F.RefArray m) h = refl
-references_alike _ h = absurd cc
-
-numbers_compared : (j k : Mode) → both is_int j k || both is_frac j k ≡ true → alike (out-Mode j) (out-Mode k) ≡ true
-numbers_compared j k e = by_int (both is_int j k) refl e
-  where
-    by_int : (b : Bool) → both is_int j k ≡ b → b || both is_frac j k ≡ true → alike (out-Mode j) (out-Mode k) ≡ true
-    by_int true f e = let h = two_true (is_int j) (is_int k) f in numbers_alike (out-Mode j) (out-Mode k) (int_number j h.0) (int_number k h.1)
-    by_int false f e = let h = two_true (is_frac j) (is_frac k) e in numbers_alike (out-Mode j) (out-Mode k) (frac_number j h.0) (frac_number k h.1)
-
-references_compared : (j k : Mode) → is_reference (out-Mode j) && same j k ≡ true → alike (out-Mode j) (out-Mode k) ≡ true
-references_compared j k e =
-    let h = two_true (is_reference (out-Mode j)) (same j k) e in
-    let is : j ≡ k = same_equal j k h.1 in
-    subst (λ (z : Mode). alike (out-Mode j) (out-Mode z) ≡ true) is (references_alike (out-Mode j) h.0)
-
-compared_alike : (r : Rel) (j k : Mode) → compare_fits r j k ≡ true → alike (out-Mode j) (out-Mode k) ≡ true
-compared_alike rel.Same j k e = references_compared j k e
-compared_alike rel.Different j k e = references_compared j k e
-compared_alike rel.Equal j k e = numbers_compared j k e
-compared_alike rel.Unequal j k e = numbers_compared j k e
-compared_alike rel.Less j k e = numbers_compared j k e
-compared_alike rel.LessOrEqual j k e = numbers_compared j k e
-compared_alike rel.Greater j k e = numbers_compared j k e
-compared_alike rel.GreaterOrEqual j k e = numbers_compared j k e
 
 module _ (x : Site) (s : Started) (private_none : (b j : ℕ) (m : Mode) → item_found (faces x.parts.bricks) b j ≡ Some (Private m) → ⊥) (svc_is : (k : ℕ) (m : Mode) → svc_mode (scope_of x.parts) k ≡ Some m → SvcIs x.parts.modes k m) where
   abbrev c : Scope
@@ -104,7 +67,7 @@ module _ (x : Site) (s : Started) (private_none : (b j : ℕ) (m : Mode) → ite
   level (Test-F.Compare r a b) = λ e named.
       let j = passed (λ z. passes (compare_fits r z) (valued c b).mode) (valued c a).mode e in
       let k = passed (compare_fits r j.0) (valued c b).mode j.2 in
-      (j.0, k.0, compared_alike r j.0 k.0 k.2, (value_good x s private_none svc_is a).is j.0 j.1 named.0, (value_good x s private_none svc_is b).is k.0 k.1 named.1)
+      (j.0, k.0, k.2, (value_good x s private_none svc_is a).is j.0 j.1 named.0, (value_good x s private_none svc_is b).is k.0 k.1 named.1)
   level (Test-F.And ts) = λ e named. let h = two_true (nat_le 2 (length (theirs ts))) (all_fit (theirs ts)) e in both_joined ts (at_least (length (theirs ts)) h.0) h.1 named
   level (Test-F.Or ts) = λ e named. let h = two_true (nat_le 2 (length (theirs ts))) (all_fit (theirs ts)) e in either_joined ts (at_least (length (theirs ts)) h.0) h.1 named
 

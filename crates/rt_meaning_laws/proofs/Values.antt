@@ -9,111 +9,21 @@ use Rattle.rt_modes.specs.declared.mode.ModeTable.{ModeTable}
 use Rattle.rt_tree_nodes.specs.declared.brick.Local.{Local}
 use Rattle.rt_tree_nodes.specs.declared.brick.Local.TheVariants as local
 use Rattle.rt_tree_nodes.specs.declared.brick.ModuleParts.{ModuleParts}
-use Rattle.rt_tree_nodes.specs.declared.operators.Op1.{Op1}
-use Rattle.rt_tree_nodes.specs.declared.operators.Op1.TheVariants as one
 use Rattle.rt_tree_nodes.specs.declared.operators.Op2.{Op2}
 use Rattle.rt_tree_nodes.specs.declared.operators.Op2.TheVariants as two
 use Rattle.rt_tree_nodes.specs.Scopes.{Scope, with, passes, same, scope_of, with_locals}
 use Rattle.rt_tree_nodes.specs.Tree.{Term, Num, Path, Svc, ElemRow, Past, Terms}
-use Rattle.rt_tree_nodes.specs.Typing.{Found, Variable, Loop, Shared, Private, Row, Spot, OnLocal, OnPath, OnRow, Placed, Valued, Called, is_value, is_byte, is_int, is_frac, both, local_found, field_by, field_found, field_path, field_in, element_by, element_found, element_path, element_in, led_by, led, led_spot, led_tree, read_mode, read_tree, reference_by, reference_mode, reference_path, reference_tree, length_by, length_mode, length_path, length_tree, signed_mode, monadic_mode, whole_mode, alike_mode, shift_mode, dyadic_mode, dyadic_tree, is_small, suits}
+use Rattle.rt_tree_nodes.specs.Typing.{Found, Variable, Loop, Shared, Private, Row, Spot, OnLocal, OnPath, OnRow, Placed, Valued, Called, is_value, is_byte, is_int, local_found, field_by, field_found, field_path, field_in, element_by, element_found, element_path, element_in, led_by, led, led_spot, led_tree, read_mode, read_tree, reference_by, reference_mode, reference_path, reference_tree, length_by, length_mode, length_path, length_tree, dyadic_mode, dyadic_tree, is_small, suits}
 use Rattle.rt_tree_nodes.proofs.Same.{same_equal}
 use Rattle.rt_tree.specs.Taken.{taken}
 use Rattle.rt_tree.specs.FullModes.{MayStand}
 use Rattle.rt_meaning_laws.specs.Slots.{IsInt, IsByte, IsOwn}
 use Rattle.rt_meaning_laws.specs.Slots as slots
-use Rattle.rt_meaning_laws.specs.Trees.{Started, Site, table, mode_of_local, local_mode, number_fits, of_number, of_word, IsNumber, IsWord, GivesOne, Dyadic, OwnFits, TermFits, PathFits, TermsFit, CallFits}
+use Rattle.rt_meaning_laws.specs.Trees.{Started, Site, table, mode_of_local, local_mode, number_fits, OwnFits, TermFits, PathFits, TermsFit, CallFits}
 use Rattle.rt_meaning_laws.specs.Named.{TermNamed, PathNamed, TermsNamed}
-use Rattle.rt_meaning_laws.proofs.Modes.{out_int, out_byte, out_frac, out_ref, out_row}
+use Rattle.rt_meaning_laws.proofs.Modes.{out_int, out_ref, out_row}
+use Rattle.rt_meaning_laws.proofs.Operators.{int_out, byte_out}
 use Rattle.rt_meaning_laws.proofs.Small.{two_true, with_is, mapped_is, only_is}
-
--- ---- modes of operators
-
-pub int_out : (m : Mode) → is_int m ≡ true → out-Mode m ≡ Mode-F.Int
-int_out m e = ap out-Mode (sym (same_equal mode.Int m e)) ∙ out_int
-
-byte_out : (m : Mode) → is_byte m ≡ true → out-Mode m ≡ Mode-F.Byte
-byte_out m e = ap out-Mode (sym (same_equal mode.Byte m e)) ∙ out_byte
-
-pub frac_number : (m : Mode) → is_frac m ≡ true → IsNumber m
-frac_number m e = ap (λ (x : Mode). of_number (out-Mode x)) (sym (same_equal mode.Frac m e)) ∙ ap of_number out_frac
-
-pub int_number : (m : Mode) → is_int m ≡ true → IsNumber m
-int_number m e = ap of_number (int_out m e)
-
-either_number : (m : Mode) → is_int m || is_frac m ≡ true → IsNumber m
-either_number m e = by_int (is_int m) refl e
-  where
-    by_int : (b : Bool) → is_int m ≡ b → b || is_frac m ≡ true → IsNumber m
-    by_int true i e = int_number m i
-    by_int false i e = frac_number m e
-
-signed_number : (k m : Mode) → signed_mode k ≡ Some m → IsNumber k × IsNumber m
-signed_number k m e =
-    let o = only_is (is_int k || is_frac k) k m e in
-    let h : IsNumber k = either_number k o.0 in
-    (h, subst IsNumber o.1 h)
-
-word_of_number : (m : Mode) → IsNumber m → IsWord m
-word_of_number m h = by_layer (out-Mode m) h
-  where
-    by_layer : (l : Mode-F Mode) → of_number l ≡ true → of_word l ≡ true
-    by_layer Mode-F.Int h = refl
-    by_layer Mode-F.Frac h = refl
-    by_layer _ h = absurd cc
-
-int_is : (m : Mode) → mode.Int ≡ m → IsNumber m
-int_is m e = ap (λ (x : Mode). of_number (out-Mode x)) (sym e) ∙ ap of_number out_int
-
-pub monadic_gives : (o : Op1) (k m : Mode) → monadic_mode o k ≡ Some m → IsWord k × GivesOne o m
-monadic_gives one.Plus k m e = let h = signed_number k m e in (word_of_number k h.0, h.1)
-monadic_gives one.Minus k m e = let h = signed_number k m e in (word_of_number k h.0, h.1)
-monadic_gives one.Abs k m e = let h = signed_number k m e in (word_of_number k h.0, h.1)
-monadic_gives one.Not k m e = let o = only_is (is_int k) mode.Int m e in (word_of_number k (int_number k o.0), int_is m o.1)
-monadic_gives one.Byte k m e = let o = only_is (is_int k) mode.Byte m e in (word_of_number k (int_number k o.0), ap out-Mode (sym o.1) ∙ out_byte)
-monadic_gives one.Int k m e = let o = only_is (is_byte k || (is_int k || is_frac k)) mode.Int m e in (any_word (is_byte k) refl o.0, int_is m o.1)
-  where
-    any_word : (b : Bool) → is_byte k ≡ b → b || (is_int k || is_frac k) ≡ true → IsWord k
-    any_word true i e = ap of_word (byte_out k i)
-    any_word false i e = word_of_number k (either_number k e)
-monadic_gives one.Frac k m e = let o = only_is (is_int k || is_frac k) mode.Frac m e in (word_of_number k (either_number k o.0), ap (λ (x : Mode). of_number (out-Mode x)) (sym o.1) ∙ ap of_number out_frac)
-
-whole_dyadic : (j k m : Mode) → whole_mode j k ≡ Some m → Dyadic j k m
-whole_dyadic j k m e =
-    let o = only_is (both is_int j k) mode.Int m e in
-    let h = two_true (is_int j) (is_int k) o.0 in
-    (int_number j h.0, int_number k h.1, int_is m o.1)
-
-frac_is : (m : Mode) → mode.Frac ≡ m → IsNumber m
-frac_is m e = ap (λ (x : Mode). of_number (out-Mode x)) (sym e) ∙ ap of_number out_frac
-
-alike_dyadic : (j k m : Mode) → alike_mode j k ≡ Some m → Dyadic j k m
-alike_dyadic j k m e = by_frac (both is_frac j k) refl e
-  where
-    by_frac : (b : Bool) → both is_frac j k ≡ b → (if b then Some mode.Frac else whole_mode j k) ≡ Some m → Dyadic j k m
-    by_frac true f e = let h = two_true (is_frac j) (is_frac k) f in let is : mode.Frac ≡ m = cc in (frac_number j h.0, frac_number k h.1, frac_is m is)
-    by_frac false f e = whole_dyadic j k m e
-
-shift_dyadic : (j k m : Mode) → shift_mode j k ≡ Some m → Dyadic j k m
-shift_dyadic j k m e = by_int (is_int k) refl e
-  where
-    by_int : (b : Bool) → is_int k ≡ b → (if b then signed_mode j else None) ≡ Some m → Dyadic j k m
-    by_int true f e = let h = signed_number j m e in (h.0, int_number k f, h.1)
-    by_int false f e = absurd cc
-
-pub dyadic_gives : (o : Op2) (j k m : Mode) → dyadic_mode o j k ≡ Some m → Dyadic j k m
-dyadic_gives two.Sll j k m e = shift_dyadic j k m e
-dyadic_gives two.Srl j k m e = shift_dyadic j k m e
-dyadic_gives two.Sla j k m e = shift_dyadic j k m e
-dyadic_gives two.Sra j k m e = shift_dyadic j k m e
-dyadic_gives two.Times j k m e = whole_dyadic j k m e
-dyadic_gives two.FracTimes j k m e = let o = only_is (both is_frac j k) mode.Frac m e in let h = two_true (is_frac j) (is_frac k) o.0 in (frac_number j h.0, frac_number k h.1, frac_is m o.1)
-dyadic_gives two.Divide j k m e = whole_dyadic j k m e
-dyadic_gives two.Mod j k m e = whole_dyadic j k m e
-dyadic_gives two.Land j k m e = whole_dyadic j k m e
-dyadic_gives two.Plus j k m e = alike_dyadic j k m e
-dyadic_gives two.Minus j k m e = alike_dyadic j k m e
-dyadic_gives two.Lor j k m e = whole_dyadic j k m e
-dyadic_gives two.Nev j k m e = whole_dyadic j k m e
 
 -- ---- places and values
 
@@ -235,7 +145,7 @@ module _ (x : Site) (s : Started) where
   shared_element : (m v i : Mode) (q : Path) (a : Term) (l : Mode-F Mode) → out-Mode m ≡ l → IsInt i → (ReadyPath q → PathFits x s q m) → (Ready a → TermFits x s a i) → element_by l ≡ Some v → PlaceIs (Shared v) (OnPath (element_path l q a))
   shared_element m v i q a (Mode-F.Array n u) o ii h g e =
       let is : u ≡ v = cc in
-      λ ready. (m, i, o ∙ ap (λ (z : Mode). Mode-F.Array n z) is, ii, h ready.0, g ready.1)
+      λ ready. (m, i, o ∙ ap (λ (z : Mode). Mode-F.Array n z) is, ii, h ready.0, g ready.1, is)
   shared_element m v i q a _ o ii h g e = absurd cc
 
   private_element : (m v : Mode) (j : ℕ) (l : Mode-F Mode) → out-Mode m ≡ l → SvcIs (table x) j m → element_by l ≡ Some v → ⊥
@@ -254,7 +164,7 @@ module _ (x : Site) (s : Started) where
   element_good (Some (Row m)) (OnRow v) a i f h ii g e =
       let k = h (Row m) refl in
       let is : Shared m ≡ f = cc in
-      let good : PlaceIs (Shared m) (OnPath (ElemRow v a m)) = λ ready. (k.0, i, k.1, ii, k.2 ready.0, g ready.1) in
+      let good : PlaceIs (Shared m) (OnPath (ElemRow v a m)) = λ ready. (k.0, i, k.1, ii, k.2 ready.0, g ready.1, refl) in
       subst (λ (z : Found). PlaceIs z (OnPath (ElemRow v a m))) is good
   element_good (Some (Shared m)) (OnLocal j) a i f h ii g e = absurd (h (Shared m) refl)
   element_good (Some (Shared m)) (OnRow v) a i f h ii g e = absurd (h (Shared m) refl)
@@ -358,7 +268,7 @@ module _ (x : Site) (s : Started) where
   length_good (Some (Row v)) (OnPath q) m h e r = absurd (h (Row v) refl)
   length_good _ t m h e r = absurd cc
 
-  pub dyadic_good : (o : Op2) (a b : Term) (j k m : Mode) → Dyadic j k m → (Ready a → TermFits x s a j) → (Ready b → TermFits x s b k) → Ready (dyadic_tree o a b) → TermFits x s (dyadic_tree o a b) m
-  dyadic_good two.Divide a b j k m d f g r = (j, k, d, f r.0, g r.1)
-  dyadic_good two.Mod a b j k m d f g r = (j, k, d, f r.0, g r.1)
-  dyadic_good _ a b j k m d f g r = (j, k, d, f r.0, g r.1)
+  pub dyadic_good : (o : Op2) (a b : Term) (j k m : Mode) → dyadic_mode o j k ≡ Some m → (Ready a → TermFits x s a j) → (Ready b → TermFits x s b k) → Ready (dyadic_tree o a b) → TermFits x s (dyadic_tree o a b) m
+  dyadic_good two.Divide a b j k m d f g r = (j, k, d, f r.0, g r.1, refl)
+  dyadic_good two.Mod a b j k m d f g r = (j, k, d, f r.0, g r.1, refl)
+  dyadic_good _ a b j k m d f g r = (j, k, d, f r.0, g r.1, refl)

@@ -12,7 +12,7 @@ use Rattle.rt_tree_nodes.specs.Scopes.{faces, field_mode, proc_mode}
 use Rattle.rt_tree_nodes.specs.Typing.{Shared, item_found}
 use Rattle.rt_tree.specs.Stored.{System, StandsAt, Suits, IsCandidate}
 use Rattle.rt_tree.specs.Taken.{taken}
-use Rattle.rt_work.specs.Task.{Env}
+use Rattle.rt_work.specs.Task.{Env, item, text}
 use Rattle.rt_tree.specs.FullModes.{MayStand}
 use Rattle.rt_meaning_laws.specs.Levels.{IsTableOf, FullModesTell}
 use Rattle.rt_meaning_laws.specs.Slots.{LeadsTo, IsByte}
@@ -31,7 +31,7 @@ pub record Sound (ps : System) : Type 0 where
 -- The numbers of the module of a procedure lead to what its nodes take them for.
 pub record Grounds (ps : System) (x : Site) (e : Env) : Type 0 where
   pub known : IsTableOf ps (table x)
-  pub items : (b i : ℕ) (m : Mode) → item_found (faces x.parts.bricks) b i ≡ Some (Shared m) → LeadsTo ps (table x) m (e.item b i)
-  pub texts : (n : ℕ) (m w : Mode) → n < length x.parts.strings → out-Mode m ≡ Mode-F.RefArray w → IsByte w → Suits ps (table x) m (e.text n)
-  pub procs : (b : ℕ) (w : Mode) → proc_mode (faces x.parts.bricks) b ≡ Some w → (ws : List Mode) × (r : Option Mode) × (out-Mode w ≡ Mode-F.Proc ws r) × MayStand (table x) w × MayCall ps (FullMode (table x) w) (e.proc b)
-  pub taken_are : (b : ℕ) (w : Mode) → proc_mode (faces x.parts.bricks) b ≡ Some w → Contains (taken x.parts) b → IsCandidate ps (FullMode (table x) w) (e.proc b)
+  pub items : (b i : ℕ) (m : Mode) → item_found (faces x.parts.bricks) b i ≡ Some (Shared m) → LeadsTo ps (table x) m (item e b i)
+  pub texts : (n : ℕ) (m w : Mode) → n < length x.parts.strings → out-Mode m ≡ Mode-F.RefArray w → IsByte w → Suits ps (table x) m (text e n)
+  pub procs : (b : ℕ) (w : Mode) → proc_mode (faces x.parts.bricks) b ≡ Some w → (ws : List Mode) × (r : Option Mode) × (out-Mode w ≡ Mode-F.Proc ws r) × MayStand (table x) w × MayCall ps (FullMode (table x) w) (e.leads b)
+  pub taken_are : (b : ℕ) (w : Mode) → proc_mode (faces x.parts.bricks) b ≡ Some w → Contains (taken x.parts) b → IsCandidate ps (FullMode (table x) w) (e.leads b)

@@ -34,7 +34,7 @@ use Rattle.rt_meaning_laws.specs.Modules.{ModulesFit}
 
 -- The invisible work of what fits lacks nothing, and the next visible step fits.
 abbrev pub WorkFits : Type 0
-WorkFits = (ps : System) (x : Site) (e : Env) (todo : List Item) (ss : List Slot) (vs ls : List Datum) → Sound ps → Grounds ps x e → Ready ps x todo ss vs ls → NextFits ps x (next e todo vs ls)
+WorkFits = (ps : System) (x : Site) (e : Env) (todo : List Item) (ss : List Slot) (vs ls : List Datum) → Sound ps → Grounds ps x e → Ready ps x todo ss vs ls → NextFits ps x e (next e todo vs ls)
 
 -- ---- reads, writes and calls
 
@@ -49,6 +49,10 @@ WritesKeep = (ps : System) (S : Store) (l : Location) (u : ModeTable) (w : Mode)
 -- A value of a mode of one module is of each mode of another module with the same full mode: so arguments and results pass.
 abbrev pub ValuesPass : Type 0
 ValuesPass = (ps : System) (t u : ModeTable) (m n : Mode) (d : Datum) → Sound ps → IsTableOf ps t → IsTableOf ps u → MayStand t m → MayStand u n → FullMode t m ≡ FullMode u n → IsOf ps t m d → IsOf ps u n d
+
+-- Modes to whose places one location leads have one full mode, whichever modules they stand in.
+abbrev pub OneModeAPlace : Type 0
+OneModeAPlace = (ps : System) (t u : ModeTable) (m n : Mode) (l : Location) → LeadsTo ps t m l → LeadsTo ps u n l → FullMode t m ≡ FullMode u n
 
 -- ---- steps and runs
 

@@ -10,3 +10,6 @@ pub mod Starting
 pub mod Named
 pub mod Modules
 pub mod Laws
+pub mod Ends
+pub mod SourceRuns
+pub mod Makes

@@ -31,7 +31,7 @@ pub record MayEnter (ps : System) (w : World) (f : Proc) (full : List ℕ) : Typ
   pub stands : MayStand (table site) is
   pub full_is : FullMode (table site) is ≡ full
   pub stays : IsAt ps w f site
-  pub begins : (args : List Datum) → AreOf ps (table site) parameters args → let a = entered (w.code f) f args in (ss : List Slot) × Ready ps site a.todo ss a.values a.locals
+  pub begins : (args : List Datum) (kept : Datum) → AreOf ps (table site) parameters args → let a = entered (w.code f) f args kept in (ss : List Slot) × Ready ps site a.todo ss a.values a.locals
 
 pub record WorldFits (ps : System) (w : World) : Type 0 where
   pub sound : Sound ps
@@ -66,8 +66,8 @@ module _ (ps : System) (w : World) where
     pub callers_fit : CallersFit site callers
 
   abbrev pub TaskFits : Task → Type 0
-  TaskFits Over = Unit {0}
-  TaskFits (Failed n) = Unit {0}
+  TaskFits (Over own) = TypedOwn ps own
+  TaskFits (Failed n own) = TypedOwn ps own
   TaskFits (Doing a callers own) = ActFits a callers × TypedOwn ps own
 
 -- ---- stores

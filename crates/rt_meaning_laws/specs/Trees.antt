@@ -9,11 +9,11 @@ use Rattle.rt_modes.specs.declared.mode.ModeTable.{ModeTable}
 use Rattle.rt_tree_nodes.specs.declared.brick.Local.{Local}
 use Rattle.rt_tree_nodes.specs.declared.brick.Local.TheVariants as local
 use Rattle.rt_tree_nodes.specs.declared.brick.ModuleParts.{ModuleParts}
-use Rattle.rt_tree_nodes.specs.declared.operators.Op1.{Op1}
-use Rattle.rt_tree_nodes.specs.declared.operators.Op1.TheVariants as one
+use Rattle.rt_tree_nodes.specs.declared.operators.Op2.{Op2}
+use Rattle.rt_tree_nodes.specs.declared.operators.Op2.TheVariants as two
 use Rattle.rt_tree_nodes.specs.Scopes.{faces, field_mode, proc_mode}
 use Rattle.rt_tree_nodes.specs.Tree.{Term, Num, Str, Name, Own, Get, Ref, RefRow, Count, CountRow, One, Two, Over, Apply, ApplyBy, Path, ItemAt, Svc, FieldOf, Elem, ElemRow, Past, Terms, NoTerm, MoreTerms, Cond, Is, Both, Either, Stmt, Keep, Clear, Put, Run, Toss, Goto, GiveBack, Back, Switch, Inner, If, For, To, While, Recover, Seq, Done, Then, Mark}
-use Rattle.rt_tree_nodes.specs.Typing.{Shared, item_found, is_value}
+use Rattle.rt_tree_nodes.specs.Typing.{Shared, item_found, is_value, monadic_mode, dyadic_mode, compare_fits}
 use Rattle.rt_tree.specs.Statements.{starts_at_zero}
 use Rattle.rt_tree.specs.Taken.{taken}
 use Rattle.rt_tree.specs.FullModes.{MayStand}
@@ -83,19 +83,11 @@ IsNumber m = of_number (out-Mode m) ≡ true
 abbrev pub IsWord : Mode → Type 0
 IsWord m = of_word (out-Mode m) ≡ true
 
--- what a monadic operator gives: BYTE a byte, each other one a number
-abbrev pub GivesOne : Op1 → Mode → Type 0
-GivesOne one.Byte m = IsByte m
-GivesOne _ m = IsNumber m
-
-abbrev pub Dyadic : Mode → Mode → Mode → Type 0
-Dyadic j k m = IsNumber j × IsNumber k × IsNumber m
-
--- numbers, or references to places, or references to arrays
-abbrev pub alike : Mode-F Mode → Mode-F Mode → Bool
-alike (Mode-F.Ref a) (Mode-F.Ref b) = true
-alike (Mode-F.RefArray a) (Mode-F.RefArray b) = true
-alike a b = of_number a && of_number b
+-- `:/` and MOD
+abbrev pub is_division : Op2 → Bool
+is_division two.Divide = true
+is_division two.Mod = true
+is_division _ = false
 
 -- the path leads to an item of the task's own data
 abbrev pub OwnFits : ModeTable → Path → Mode → Type 0
@@ -117,9 +109,9 @@ module _ (x : Site) where
     TermFits s (RefRow q n) m = (w a : Mode) × (out-Mode m ≡ Mode-F.RefArray w) × (out-Mode a ≡ Mode-F.Array n w) × PathFits s q a
     TermFits s (Count q n) m = (a : Mode) × IsInt m × (n < 65536) × PathFits s q a
     TermFits s (CountRow v) m = (k w : Mode) × IsInt m × (out-Mode k ≡ Mode-F.RefArray w) × TermFits s v k
-    TermFits s (One o v) m = (k : Mode) × IsWord k × GivesOne o m × TermFits s v k
-    TermFits s (Two o a b) m = (j k : Mode) × Dyadic j k m × TermFits s a j × TermFits s b k
-    TermFits s (Over o a b) m = (j k : Mode) × Dyadic j k m × TermFits s a j × TermFits s b k
+    TermFits s (One o v) m = (k : Mode) × (monadic_mode o k ≡ Some m) × TermFits s v k
+    TermFits s (Two o a b) m = (j k : Mode) × (dyadic_mode o j k ≡ Some m) × TermFits s a j × TermFits s b k × (is_division o ≡ false)
+    TermFits s (Over o a b) m = (j k : Mode) × (dyadic_mode o j k ≡ Some m) × TermFits s a j × TermFits s b k × (is_division o ≡ true)
     TermFits s (Apply b vs) m = (w : Mode) × (ws : List Mode) × (proc_mode (faces x.parts.bricks) b ≡ Some w) × (out-Mode w ≡ Mode-F.Proc ws (Some m)) × TermsFit s vs ws
     TermFits s (ApplyBy f vs) m = (w : Mode) × (ws : List Mode) × (out-Mode w ≡ Mode-F.Proc ws (Some m)) × TermFits s f w × TermsFit s vs ws
 
@@ -128,8 +120,8 @@ module _ (x : Site) where
     PathFits s (ItemAt b i) m = item_found (faces x.parts.bricks) b i ≡ Some (Shared m)
     PathFits s (Svc k) m = ⊥
     PathFits s (FieldOf q r k) m = (w : Mode) × (out-Mode w ≡ Mode-F.Record r) × (field_mode x.parts.modes.records r k ≡ Some m) × PathFits s q w
-    PathFits s (Elem q v n e) m = (w i : Mode) × (out-Mode w ≡ Mode-F.Array n m) × IsInt i × PathFits s q w × TermFits s v i
-    PathFits s (ElemRow a v e) m = (w i : Mode) × (out-Mode w ≡ Mode-F.RefArray m) × IsInt i × TermFits s a w × TermFits s v i
+    PathFits s (Elem q v n e) m = (w i : Mode) × (out-Mode w ≡ Mode-F.Array n m) × IsInt i × PathFits s q w × TermFits s v i × (e ≡ m)
+    PathFits s (ElemRow a v e) m = (w i : Mode) × (out-Mode w ≡ Mode-F.RefArray m) × IsInt i × TermFits s a w × TermFits s v i × (e ≡ m)
     PathFits s (Past v) m = (w : Mode) × (out-Mode w ≡ Mode-F.Ref m) × TermFits s v w
 
     -- as many terms as modes, and each gives a value of its mode
@@ -146,7 +138,7 @@ module _ (x : Site) where
   -- ---- conditions
 
   abbrev pub CondFits : Started → Cond → Type 0
-  CondFits s (Is r a b) = (j k : Mode) × (alike (out-Mode j) (out-Mode k) ≡ true) × TermFits s a j × TermFits s b k
+  CondFits s (Is r a b) = (j k : Mode) × (compare_fits r j k ≡ true) × TermFits s a j × TermFits s b k
   CondFits s (Both t u) = CondFits s t × CondFits s u
   CondFits s (Either t u) = CondFits s t × CondFits s u
 
@@ -164,7 +156,7 @@ module _ (x : Site) where
     pub StmtFits : Started → Stmt → Type 0
     StmtFits s (Keep i v) = (m : Mode) × (local_mode x i ≡ Some m) × TermFits s v m
     StmtFits s (Clear i) = (m : Mode) × (local_mode x i ≡ Some m) × (starts_at_zero (out-Mode m) ≡ true)
-    StmtFits s (Put w q v) = (m : Mode) × (is_value (out-Mode m) ≡ true) × (PathFits s q m ⊎ (OwnFits (table x) q m × MayStand (table x) m)) × TermFits s v m
+    StmtFits s (Put w q v) = (m : Mode) × (is_value (out-Mode m) ≡ true) × (PathFits s q m ⊎ (OwnFits (table x) q m × MayStand (table x) m)) × TermFits s v m × (w ≡ m)
     StmtFits s (Run v) = CallFits s v None
     StmtFits s (Toss v) = (m : Mode) × TermFits s v m
     StmtFits s (Goto l) = LabelFits s l

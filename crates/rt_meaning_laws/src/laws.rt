@@ -1,6 +1,9 @@
 //! The laws. Each is a function that does nothing, whose contract is the law.
 
+ghost use Rattle.rt_meaning_laws.specs.Ends as ending;
 ghost use Rattle.rt_meaning_laws.specs.Laws as law;
+ghost use Rattle.rt_meaning_laws.specs.Makes as makes;
+ghost use Rattle.rt_meaning_laws.specs.SourceRuns as runs;
 
 use rt_tree::{parts_suit_their_modes, writes_keep_modes};
 use rt_tree_laws::full_modes_open;
@@ -34,9 +37,23 @@ pub fn values_pass()
     ensures { law.ValuesPass }
 {}
 
+/// Modes to whose places one location leads have one full mode.
+pub fn one_mode_a_place()
+    ensures { law.OneModeAPlace }
+{}
+
 /// A visible step of a task that fits, over a typed store, lacks nothing, and it leaves a typed store and a task that fits.
 pub fn steps_keep_types()
     ensures { law.StepsKeep }
+{
+    parts_suit_their_modes();
+    writes_keep_modes();
+}
+
+/// Several steps of a task that fits, of which only the last may ask a service and none before it ends the task, leave a typed
+/// store and a task that fits.
+pub fn steps_in_a_row_keep_types()
+    ensures { makes.MakesKeep }
 {
     parts_suit_their_modes();
     writes_keep_modes();
@@ -64,5 +81,27 @@ pub fn systems_fit()
 pub fn modules_fit()
     ensures { law.ModulesMakeSystems }
 {
+    full_modes_open();
+}
+
+/// In every state of a run there are as many tasks as rows, each task is over, has failed with a number, or goes on just where its
+/// row says so, and the outermost activation of one that goes on is its root's. So a task that runs goes on.
+pub fn ends_agree()
+    ensures agree { ending.EndsAgree }
+    ensures runners { ending.RunnersGoOn }
+{
+    parts_suit_their_modes();
+    writes_keep_modes();
+    full_modes_open();
+}
+
+/// Whatever ticks and input a source run has, it comes from a state that fits to one that fits, in which no task lacks a value; and
+/// in the run of a system of modules that fit each task ends as its row says.
+pub fn source_runs_fit()
+    ensures keep { runs.SourceRunsKeep }
+    ensures systems { runs.SystemRunsFit }
+{
+    parts_suit_their_modes();
+    writes_keep_modes();
     full_modes_open();
 }

@@ -5,6 +5,7 @@
 mod laws;
 
 pub use laws::{
-    modules_fit, reads_and_writes_fit, runs_keep_types, starts_fit, steps_keep_types,
-    stores_stay_typed, systems_fit, values_pass, work_fits,
+    ends_agree, modules_fit, one_mode_a_place, reads_and_writes_fit, runs_keep_types,
+    source_runs_fit, starts_fit, steps_in_a_row_keep_types, steps_keep_types, stores_stay_typed,
+    systems_fit, values_pass, work_fits,
 };

@@ -3,7 +3,7 @@ use Rattle.std.proofs.Common.{◌≡◌, ℕ, zero, suc, ◌+◌, ◌<◌, ◌�
 use Rattle.std.proofs.lemmas.Bool.Decides.{nat_tests}
 use Rattle.rt_tree_nodes.specs.Tree.{Cond, Stmt, If, Seq, Then, Mark}
 use Rattle.rt_tree.specs.Statements.{marks}
-use Rattle.rt_work.specs.Task.{Item, Do, or_else, here_or, from_label, from_inside}
+use Rattle.rt_work.specs.Task.{Item, Do, PastElse, or_else, here_or, from_label, from_inside}
 
 -- whatever is to be done behind the sequence
 abbrev pub StandsIn : Seq → ℕ → Type 0
@@ -33,10 +33,10 @@ pub stands_later : (a : Stmt) (q : Seq) (l : ℕ) → StandsIn q l → StandsIn 
 stands_later a q l h rest = let z = h rest in or_second (from_inside l a (Do q ∷ rest)) (from_label l q rest) z.0 z.1
 
 pub stands_chosen : (t : Cond) (a b : Seq) (l : ℕ) → StandsIn a l → StandsInside (If t a b) l
-stands_chosen t a b l h rest = let z = h rest in (z.0, or_first (from_label l a rest) (from_label l b rest) z.0 z.1)
+stands_chosen t a b l h rest = let z = h (PastElse ∷ rest) in (z.0, or_first (from_label l a (PastElse ∷ rest)) (from_label l b rest) z.0 z.1)
 
 pub stands_otherwise : (t : Cond) (a b : Seq) (l : ℕ) → StandsIn b l → StandsInside (If t a b) l
-stands_otherwise t a b l h rest = let z = h rest in or_second (from_label l a rest) (from_label l b rest) z.0 z.1
+stands_otherwise t a b l h rest = let z = h rest in or_second (from_label l a (PastElse ∷ rest)) (from_label l b rest) z.0 z.1
 
 stands_here : (l : ℕ) (q : Seq) → StandsIn (Mark l q) l
 stands_here l q rest = (Do q ∷ rest, ap (λ (b : Bool). here_or b (Do q ∷ rest) (from_label l q rest)) (same_number l))

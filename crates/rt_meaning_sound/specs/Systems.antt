@@ -6,9 +6,13 @@ use Rattle.rt_items.specs.Ranges.{IsByte}
 use Rattle.rt_tree.specs.Stored.{System, module_of}
 use Rattle.rt_resolve.specs.Systems.{world}
 use Rattle.rt_meaning.specs.declared.begin.SourceTask.{SourceTask}
+use Rattle.rt_meaning.specs.Roots.{roots}
 use Rattle.rt_meaning.specs.Whole.{beginning}
+use Rattle.rt_runs.specs.Runs.{Reached, system_run}
+use Rattle.rt_meaning_laws.specs.Ends.{Agree}
 use Rattle.rt_meaning_laws.specs.Modules.{ModulesFit}
 use Rattle.rt_meaning_laws.specs.Runs.{StateFits, NoneLacks, Happening, after, MayHappen}
+use Rattle.rt_meaning_laws.specs.SourceRuns.{AreBytes}
 use Rattle.rt_meaning_laws.specs.Starting.{TasksMatch}
 use Rattle.rt_resolve.specs.Matching.{Matched}
 use Rattle.rt_check.specs.Texts.{IsTree}
@@ -32,3 +36,9 @@ TextsMakeSystems = (ps : System) → AreOfTexts ps → Matched ps → ModulesFit
 abbrev pub StoresOfTextsStayTyped : Type 0
 StoresOfTextsStayTyped = (ps : System) (ts : List SourceTask) (hs : List Happening) → AreOfTexts ps → Matched ps → TasksMatch ps ts → MayHappen hs
     → StateFits ps (world ps) (after (world ps) (beginning ps ts) hs) × NoneLacks (world ps) (after (world ps) (beginning ps ts) hs).tasks
+
+-- Whatever such a system's run of so many steps comes to, with these placements of ticks and this input, the store is typed there
+-- and each task fits, no task lacks a value, and each ends as its row says.
+abbrev pub RunsOfTextsFit : Type 0
+RunsOfTextsFit = (ps : System) (ts : List SourceTask) (placements input : List ℕ) (n : ℕ) (r : Reached) → AreOfTexts ps → Matched ps → TasksMatch ps ts → AreBytes input → system_run ps ts placements input n ≡ Some r
+    → StateFits ps (world ps) r.state × NoneLacks (world ps) r.state.tasks × Agree (roots ts) r.state

@@ -3,12 +3,12 @@
 ghost use Rattle.rt_meaning_sound.specs.Numbers.{StartsAreWords, StringsAreBytes};
 ghost use Rattle.rt_meaning_sound.specs.Procedures.{ProceduresAreNamed, ModulesAreNamed};
 ghost use Rattle.rt_meaning_sound.specs.Expressions.{ValuesAreSeen, TargetsAreSeen, ValTargetsAreSeen, CallsAreSeen, TestsAreSeen, ModesAreShort};
-ghost use Rattle.rt_meaning_sound.specs.Systems.{TextsMakeSystems, StoresOfTextsStayTyped};
+ghost use Rattle.rt_meaning_sound.specs.Systems.{TextsMakeSystems, StoresOfTextsStayTyped, RunsOfTextsFit};
 
 use rt_bricks_laws::names_are_words;
 use rt_check_module_laws::{data_items_are_fields, modules_fit, records_are_tables};
 use rt_items::items_are_in_range;
-use rt_meaning_laws::stores_stay_typed;
+use rt_meaning_laws::{source_runs_fit, stores_stay_typed};
 use rt_tree_laws::full_data_open;
 
 /// In the tree of a module of a text each number in a start of data is below 65,536, and each byte of a string is below 256.
@@ -45,10 +45,12 @@ pub fn modes_are_short()
 {}
 
 /// A system of modules of texts that match has all that the law of typed stores asks of modules. So in every state of its source
-/// run, whatever ticks and steps come, the store is typed and each task fits, and no task lacks a value.
+/// run, whatever ticks and steps come, the store is typed and each task fits, and no task lacks a value; and so it is in what a run
+/// by placements of ticks comes to, where each task ends as its row says.
 pub fn stores_of_texts_stay_typed()
     ensures fit { TextsMakeSystems }
     ensures typed { StoresOfTextsStayTyped }
+    ensures runs { RunsOfTextsFit }
 {
     items_are_in_range();
     names_are_words();
@@ -59,4 +61,5 @@ pub fn stores_of_texts_stay_typed()
     modules_are_named();
     modules_fit();
     stores_stay_typed();
+    source_runs_fit();
 }

@@ -27,7 +27,7 @@ pub record Resolved : Type 0 where
 -- ---- what modules are
 
 abbrev pub procedure_code : Scope → ProcBody → Code
-procedure_code c b = record { body = body_tree (with_locals c b.locals) b.body; size = length b.locals }
+procedure_code c b = record { body = body_tree (with_locals c b.locals) b.body; size = length b.locals; most = b.most }
 
 abbrev pub sort_code : Scope → BrickSort → Option Code
 sort_code c (sort.Proc m (Some b)) = Some (procedure_code c b)

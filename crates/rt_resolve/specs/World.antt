@@ -12,6 +12,7 @@ use Rattle.rt_work.specs.Task.{Env}
 pub record Code : Type 0 where
   pub body : Seq
   pub size : ℕ  -- how many locals, parameters among them
+  pub most : ℕ  -- the bound of its recursion; 0 where it has none
 
 pub record World : Type 0 where
   pub env : ℕ → Env  -- of a module
@@ -20,7 +21,7 @@ pub record World : Type 0 where
 -- ---- what the code holds of them
 
 abbrev pub code : CodeNode → Code
-code c = record { body = n.seq c.body; size = c.size }
+code c = record { body = n.seq c.body; size = c.size; most = c.most }
 
 abbrev pub code_in : Option (Option CodeNode) → Option Code
 code_in None = None

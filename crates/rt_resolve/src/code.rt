@@ -15,6 +15,8 @@ pub struct Code {
     pub body: Body,
     /// How many locals, parameters among them.
     pub size: usize,
+    /// The bound of its recursion; 0 where it has none.
+    pub most: u16,
 }
 
 /// A module.

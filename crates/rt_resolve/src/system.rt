@@ -64,6 +64,7 @@ fn procedure_code(alloc: Global, scope: &Scope<'_>, procedure: &ProcBody) -> Res
     Ok(Code {
         body: Body::new(alloc, tree)?,
         size: procedure.locals.len(),
+        most: procedure.most,
     })
 }
 

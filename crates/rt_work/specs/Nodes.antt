@@ -1,11 +1,7 @@
 -- The trees of the code, and what it holds of a task, as plain trees and plain data.
 use Rattle.std.specs.Prelude.{◌≡◌, ℕ, ◌+◌, ◌<◌, List, [], ◌∷◌, slice_get, Option, Some, None}
 use Rattle.rt_tree_nodes.specs.declared.store.Proc.{Proc}
-use Rattle.rt_tree_nodes.specs.declared.store.Origin.TheVariants.{Brick, Text}
-use Rattle.rt_tree_nodes.specs.declared.store.Location.{Location}
-use Rattle.rt_tree_nodes.specs.declared.store.Location.TheVariants as location
 use Rattle.rt_tree_nodes.specs.declared.store.Datum.{Datum}
-use Rattle.rt_tree_nodes.specs.declared.store.Datum.TheVariants as datum
 use Rattle.rt_tree_nodes.specs.Tree.{Term, Num, Str, Name, Own, Get, Ref, RefRow, Count, CountRow, One, Two, Over, Apply, ApplyBy, Path, ItemAt, Svc, FieldOf, Elem, ElemRow, Past, Terms, NoTerm, MoreTerms, Cond, Is, Both, Either, Stmt, Keep, Clear, Put, Run, Toss, Goto, GiveBack, Back, Switch, Inner, If, For, To, While, Recover, Seq, Done, Then, Mark}
 use Rattle.rt_work.specs.declared.node.TermNode.{TermNode}
 use Rattle.rt_work.specs.declared.node.TermNode.TheVariants as t
@@ -99,8 +95,8 @@ item (i.Eval a) = task.Eval (term a.value)
 item (i.At a) = task.At (path a.value)
 item (i.Args a) = task.Args (terms a.value)
 item i.Fetch = task.Fetch
-item (i.Into k) = task.Into k
-item (i.Pick k) = task.Pick k
+item (i.Into p k) = task.Into (path p.value) k
+item (i.Pick p k) = task.Pick (path p.value) k
 item i.PickRow = task.PickRow
 item (i.Span k) = task.Span k
 item (i.Tell k) = task.Tell k
@@ -109,16 +105,18 @@ item (i.Alter o) = task.Alter o
 item (i.Merge o) = task.Merge o
 item (i.Split o) = task.Split o
 item (i.Report k) = task.Report k
+item (i.Stand k) = task.Stand k
 item (i.Enter b a) = task.Enter b (task.how_many (terms a.value))
 item (i.EnterBy a) = task.EnterBy (task.how_many (terms a.value))
 item (i.Local k) = task.Local k
-item i.Save = task.Save
+item (i.Save p v) = task.Save (path p.value) (term v.value)
 item i.Toss = task.Drop
-item (i.Compare r) = task.Compare r
+item (i.Compare r a b) = task.Compare r (term a.value) (term b.value)
 item (i.Try a) = task.Try (cond a.value)
 item (i.AndThen a) = task.AndThen (cond a.value)
 item (i.OrElse a) = task.OrElse (cond a.value)
 item (i.Choose a b) = task.Choose (seq a.value) (seq b.value)
+item i.PastElse = task.PastElse
 item (i.Decide a b) = task.Decide (cond a.value) (seq b.value)
 item (i.Again a b) = task.Again (cond a.value) (seq b.value)
 item (i.CountFor k a) = task.CountFor k (seq a.value)
@@ -143,9 +141,6 @@ proc_in (Some f) = f
 abbrev pub brick_of : EnvNode → ℕ → Proc
 brick_of e b = proc_in (slice_get e.bricks b)
 
-abbrev pub item_of : Proc → ℕ → Location
-item_of f k = location.Shared (Brick f.module f.brick) (k ∷ [])
-
 abbrev pub length_in : Option ℕ → ℕ
 length_in None = 0
 length_in (Some n) = n
@@ -154,15 +149,12 @@ length_in (Some n) = n
 abbrev pub length_of : EnvNode → ℕ → ℕ
 length_of e k = length_in (slice_get e.texts k)
 
-abbrev pub text_of : EnvNode → ℕ → Datum
-text_of e k = datum.Row (location.Shared (Text e.module k) []) (length_of e k)
-
 abbrev pub env : EnvNode → Env
-env e = record { item = λ b k. item_of (brick_of e b) k; text = λ k. text_of e k; proc = λ b. brick_of e b }
+env e = record { number = e.module; leads = λ b. brick_of e b; lengths = λ k. length_of e k }
 
 -- the numbers of no module
 abbrev pub nowhere : Env
-nowhere = record { item = λ b k. item_of (supplied 0) k; text = λ k. datum.Row (location.Shared (Text 0 k) []) 0; proc = λ b. supplied 0 }
+nowhere = record { number = 0; leads = λ b. supplied 0; lengths = λ k. 0 }
 
 -- the next visible step, with what the code holds after the invisible work
 abbrev pub made : NextNode → List Item → List Datum → List Datum → Next

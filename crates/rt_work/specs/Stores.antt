@@ -89,6 +89,10 @@ write_own own (Own k) d = slice_set own k d
 abbrev pub erp : Location
 erp = Own 2
 
+-- what ERL holds
+abbrev pub erl_in : List Datum → Datum
+erl_in own = datum_in (slice_get own 0)
+
 -- the supplied procedure of a number
 abbrev pub supplied : ℕ → Proc
 supplied n = record { «module» = 0; brick = n }

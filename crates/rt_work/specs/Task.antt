@@ -24,21 +24,34 @@ use Rattle.rt_work.specs.declared.numbers.Share.TheVariants.{Gives, Fails}
 use Rattle.rt_work.specs.Numbers.{one_of, two_of, divided, holds, turns, turns_to}
 use Rattle.rt_work.specs.Stores.{datum_in, deeper, erp}
 
--- where a module's own numbers lead
+-- where a module's own numbers lead: its own number, the procedure or data brick that each of its bricks is or is bound to,
+-- and the length of each of its strings
 pub record Env : Type 0 where
-  pub item : ℕ → ℕ → Location
-  pub text : ℕ → Datum
-  pub proc : ℕ → Proc
+  pub number : ℕ
+  pub leads : ℕ → Proc
+  pub lengths : ℕ → ℕ
 
--- one thing that is still to be done
+-- an item of a data brick
+abbrev pub item_of : Proc → ℕ → Location
+item_of f i = location.Shared (Brick f.module f.brick) (i ∷ [])
+
+-- an item of the data brick of a number
+abbrev pub item : Env → ℕ → ℕ → Location
+item e b i = item_of (e.leads b) i
+
+-- the row of the string of a number
+abbrev pub text : Env → ℕ → Datum
+text e n = Row (location.Shared (Text e.number n) []) (e.lengths n)
+
+-- One thing that is still to be done. Some bear the path or the terms that they come from, which no step looks at.
 pub data Item : Type 0 where
   Do : (q : Seq) → Item
   Eval : (v : Term) → Item  -- its value goes on the values
   At : (p : Path) → Item  -- its place goes on the values
   Args : (vs : Terms) → Item  -- the values of all, one after the other
   Fetch : Item  -- a place becomes what is read there
-  Into : (k : ℕ) → Item  -- a place becomes that of its field k
-  Pick : (n : ℕ) → Item  -- the place of an array of n elements and a subscript become the place of the element
+  Into : (p : Path) (k : ℕ) → Item  -- a place, which is that of p, becomes that of its field k
+  Pick : (p : Path) (n : ℕ) → Item  -- the place of p, an array of n elements, and a subscript become the place of the element
   PickRow : Item  -- the same of a REF ARRAY
   Span : (n : ℕ) → Item  -- a place becomes a REF ARRAY
   Tell : (n : ℕ) → Item  -- a place becomes a number that is known
@@ -47,16 +60,18 @@ pub data Item : Type 0 where
   Merge : (o : Op2) → Item
   Split : (o : Op2) → Item  -- a division
   Report : (n : ℕ) → Item  -- the last value, which is that of ERP, is called with the error's number
+  Stand : (n : ℕ) → Item  -- a number that is known goes on the values
   Enter : (b n : ℕ) → Item  -- a brick is called with the last n values
   EnterBy : (n : ℕ) → Item  -- the procedure that lies under the last n values is called with them
   Local : (i : ℕ) → Item  -- a local becomes the last value
-  Save : Item  -- the last value is written at the place under it
+  Save : (p : Path) (v : Term) → Item  -- the last value, which is that of v, is written at the place of p under it
   Drop : Item  -- the last value goes
-  Compare : (r : Rel) → Item
+  Compare : (r : Rel) (a b : Term) → Item  -- the last two values, which are those of a and b
   Try : (t : Cond) → Item  -- its answer goes on the values
   AndThen : (t : Cond) → Item  -- the second test of an AND, where the first one's answer is true
   OrElse : (t : Cond) → Item  -- the second test of an OR, where the first one's answer is false
   Choose : (a b : Seq) → Item  -- a test's answer chooses
+  PastElse : Item  -- the end of what stands behind a THEN
   Decide : (t : Cond) (q : Seq) → Item  -- the answer of a WHILE's test
   Again : (t : Cond) (q : Seq) → Item  -- the end of its body
   CountFor : (i : ℕ) (q : Seq) → Item  -- a FOR, once its end is known
@@ -157,10 +172,10 @@ alter_then o go vs ls = found (word_on vs) (λ a us. go (Word (one_of o a) ∷ u
 abbrev pub merge_then : Op2 → Going → List Datum → List Datum → Next
 merge_then o go vs ls = found (word_on vs) (λ b us. found (word_on us) (λ a ws. go (Word (two_of o a b) ∷ ws) ls))
 
--- a division that fails reads ERP, and its value is 0
+-- a division that fails reads ERP, and its value is 0, which stands once the call has come back
 abbrev pub share_then : Share → List Item → Going → List Datum → List Datum → Next
 share_then (Gives n) rest go vs ls = go (Word n ∷ vs) ls
-share_then (Fails n) rest go vs ls = Reads erp (Report n ∷ rest) (Word 0 ∷ vs) ls
+share_then (Fails n) rest go vs ls = Reads erp (Report n ∷ Stand 0 ∷ rest) vs ls
 
 abbrev pub split_then : Op2 → List Item → Going → List Datum → List Datum → Next
 split_then o rest go vs ls =
@@ -337,8 +352,8 @@ module _ (e : Env) where
   abbrev mutual
     pub first : Term → List Item → Going → Going
     first (Num n) rest go vs ls = go (Word n ∷ vs) ls
-    first (Str n) rest go vs ls = go (e.text n ∷ vs) ls
-    first (Name b) rest go vs ls = go (Procedure (e.proc b) ∷ vs) ls
+    first (Str n) rest go vs ls = go (text e n ∷ vs) ls
+    first (Name b) rest go vs ls = go (Procedure (e.leads b) ∷ vs) ls
     first (Own i) rest go vs ls = go (local ls i ∷ vs) ls
     first (Get m p) rest go vs ls = first_p p (Fetch ∷ rest) (fetch_then rest) vs ls
     first (Ref p) rest go vs ls = first_p p rest go vs ls
@@ -351,16 +366,16 @@ module _ (e : Env) where
     first (Over o a b) rest go vs ls =
         first a (Eval b ∷ Split o ∷ rest) (λ us ks. first b (Split o ∷ rest) (split_then o rest go) us ks) vs ls
     first (Apply b xs) rest go vs ls =
-        first_all xs (Enter b (how_many xs) ∷ rest) (enter_then (e.proc b) (how_many xs) rest) vs ls
+        first_all xs (Enter b (how_many xs) ∷ rest) (enter_then (e.leads b) (how_many xs) rest) vs ls
     first (ApplyBy f xs) rest go vs ls =
         first f (Args xs ∷ EnterBy (how_many xs) ∷ rest) (λ us ks. first_all xs (EnterBy (how_many xs) ∷ rest) (enter_by_then (how_many xs) rest) us ks) vs ls
 
     pub first_p : Path → List Item → Going → Going
-    first_p (ItemAt b i) rest go vs ls = go (Reference (e.item b i) ∷ vs) ls
+    first_p (ItemAt b i) rest go vs ls = go (Reference (item e b i) ∷ vs) ls
     first_p (Svc k) rest go vs ls = go (Reference (location.Own k) ∷ vs) ls
-    first_p (FieldOf p r k) rest go vs ls = first_p p (Into k ∷ rest) (into_then k go) vs ls
+    first_p (FieldOf p r k) rest go vs ls = first_p p (Into p k ∷ rest) (into_then k go) vs ls
     first_p (Elem p v n m) rest go vs ls =
-        first_p p (Eval v ∷ Pick n ∷ rest) (λ us ks. first v (Pick n ∷ rest) (pick_then n go) us ks) vs ls
+        first_p p (Eval v ∷ Pick p n ∷ rest) (λ us ks. first v (Pick p n ∷ rest) (pick_then n go) us ks) vs ls
     first_p (ElemRow a v m) rest go vs ls =
         first a (Eval v ∷ PickRow ∷ rest) (λ us ks. first v (PickRow ∷ rest) (pick_row_then go) us ks) vs ls
     first_p (Past v) rest go vs ls = first v rest go vs ls
@@ -371,7 +386,7 @@ module _ (e : Env) where
 
   abbrev pub first_t : Cond → List Item → Going → Going
   first_t (Is r a b) rest go vs ls =
-      first a (Eval b ∷ Compare r ∷ rest) (λ us ks. first b (Compare r ∷ rest) (compare_then r go) us ks) vs ls
+      first a (Eval b ∷ Compare r a b ∷ rest) (λ us ks. first b (Compare r a b ∷ rest) (compare_then r go) us ks) vs ls
   first_t (Both t u) rest go vs ls = first_t t (AndThen u ∷ rest) (and_then (λ us ks. first_t u rest go us ks) go) vs ls
   first_t (Either t u) rest go vs ls = first_t t (OrElse u ∷ rest) (or_then (λ us ks. first_t u rest go us ks) go) vs ls
 
@@ -380,7 +395,7 @@ module _ (e : Env) where
     first_s (Keep i v) rest go vs ls = first v (Local i ∷ rest) (local_then i go) vs ls
     first_s (Clear i) rest go vs ls = go vs (slice_set ls i (Word 0))
     first_s (Put m p v) rest go vs ls =
-        first_p p (Eval v ∷ Save ∷ rest) (λ us ks. first v (Save ∷ rest) (save_then rest) us ks) vs ls
+        first_p p (Eval v ∷ Save p v ∷ rest) (λ us ks. first v (Save p v ∷ rest) (save_then rest) us ks) vs ls
     first_s (Run v) rest go vs ls = first v rest go vs ls
     first_s (Toss v) rest go vs ls = first v (Drop ∷ rest) (drop_then go) vs ls
     first_s (Goto l) rest go vs ls = Leaps l ls
@@ -389,7 +404,7 @@ module _ (e : Env) where
     first_s (Switch v labels) rest go vs ls = first v (ToLabel labels ∷ rest) (to_label_then labels go) vs ls
     first_s (Inner q) rest go vs ls = first_q q rest go vs ls
     first_s (If t a b) rest go vs ls =
-        first_t t (Choose a b ∷ rest) (choose_then (λ us ks. first_q a rest go us ks) (λ us ks. first_q b rest go us ks)) vs ls
+        first_t t (Choose a b ∷ rest) (choose_then (λ us ks. first_q a (PastElse ∷ rest) go us ks) (λ us ks. first_q b rest go us ks)) vs ls
     first_s (For i a b c q) rest go vs ls =
         first a (Local i ∷ Eval b ∷ Local (i + 1) ∷ Eval c ∷ CountFor i q ∷ rest) (local_then i (λ us ks.
         first b (Local (i + 1) ∷ Eval c ∷ CountFor i q ∷ rest) (local_then (i + 1) (λ us2 ks2.
@@ -423,8 +438,8 @@ module _ (e : Env) where
   next (At p ∷ rest) vs ls = first_p p rest (λ us ks. next rest us ks) vs ls
   next (Args xs ∷ rest) vs ls = first_all xs rest (λ us ks. next rest us ks) vs ls
   next (Fetch ∷ rest) vs ls = fetch_then rest vs ls
-  next (Into k ∷ rest) vs ls = into_then k (λ us ks. next rest us ks) vs ls
-  next (Pick n ∷ rest) vs ls = pick_then n (λ us ks. next rest us ks) vs ls
+  next (Into p k ∷ rest) vs ls = into_then k (λ us ks. next rest us ks) vs ls
+  next (Pick p n ∷ rest) vs ls = pick_then n (λ us ks. next rest us ks) vs ls
   next (PickRow ∷ rest) vs ls = pick_row_then (λ us ks. next rest us ks) vs ls
   next (Span n ∷ rest) vs ls = span_then n (λ us ks. next rest us ks) vs ls
   next (Tell n ∷ rest) vs ls = tell_then n (λ us ks. next rest us ks) vs ls
@@ -433,17 +448,19 @@ module _ (e : Env) where
   next (Merge o ∷ rest) vs ls = merge_then o (λ us ks. next rest us ks) vs ls
   next (Split o ∷ rest) vs ls = split_then o rest (λ us ks. next rest us ks) vs ls
   next (Report n ∷ rest) vs ls = report_then n rest vs ls
-  next (Enter b n ∷ rest) vs ls = enter_then (e.proc b) n rest vs ls
+  next (Stand n ∷ rest) vs ls = next rest (Word n ∷ vs) ls
+  next (Enter b n ∷ rest) vs ls = enter_then (e.leads b) n rest vs ls
   next (EnterBy n ∷ rest) vs ls = enter_by_then n rest vs ls
   next (Local i ∷ rest) vs ls = local_then i (λ us ks. next rest us ks) vs ls
-  next (Save ∷ rest) vs ls = save_then rest vs ls
+  next (Save p v ∷ rest) vs ls = save_then rest vs ls
   next (Drop ∷ rest) vs ls = drop_then (λ us ks. next rest us ks) vs ls
-  next (Compare r ∷ rest) vs ls = compare_then r (λ us ks. next rest us ks) vs ls
+  next (Compare r a b ∷ rest) vs ls = compare_then r (λ us ks. next rest us ks) vs ls
   next (Try t ∷ rest) vs ls = first_t t rest (λ us ks. next rest us ks) vs ls
   next (AndThen t ∷ rest) vs ls = and_then (λ us ks. first_t t rest (λ ws ms. next rest ws ms) us ks) (λ us ks. next rest us ks) vs ls
   next (OrElse t ∷ rest) vs ls = or_then (λ us ks. first_t t rest (λ ws ms. next rest ws ms) us ks) (λ us ks. next rest us ks) vs ls
   next (Choose a b ∷ rest) vs ls =
-      choose_then (λ us ks. first_q a rest (λ ws ms. next rest ws ms) us ks) (λ us ks. first_q b rest (λ ws ms. next rest ws ms) us ks) vs ls
+      choose_then (λ us ks. first_q a (PastElse ∷ rest) (λ ws ms. next rest ws ms) us ks) (λ us ks. first_q b rest (λ ws ms. next rest ws ms) us ks) vs ls
+  next (PastElse ∷ rest) vs ls = next rest vs ls
   next (Decide t q ∷ rest) vs ls = choose_then (while_body t q rest) (λ us ks. next rest us ks) vs ls
   next (Again t q ∷ rest) vs ls = Jumps (Try t ∷ Decide t q ∷ rest) vs ls
   next (CountFor i q ∷ rest) vs ls = count_for_then i (λ us ks. next rest us ks) (for_body i q rest (λ us ks. next rest us ks)) vs ls
@@ -475,7 +492,7 @@ abbrev mutual
 
   pub from_inside : ℕ → Stmt → List Item → Option (List Item)
   from_inside l (Inner q) rest = from_label l q rest
-  from_inside l (If t a b) rest = or_else (from_label l a rest) (from_label l b rest)
+  from_inside l (If t a b) rest = or_else (from_label l a (PastElse ∷ rest)) (from_label l b rest)
   from_inside l (For i a b c q) rest = from_label l q (TurnFor i q ∷ rest)
   from_inside l (To i n q) rest = from_label l q (TurnTo i q ∷ rest)
   from_inside l (While t q) rest = from_label l q (Again t q ∷ rest)

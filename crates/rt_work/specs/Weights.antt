@@ -43,7 +43,7 @@ abbrev mutual
   weight_s (GiveBack v) = weight v + 1
   weight_s (Switch v labels) = weight v + 1
   weight_s (Inner q) = weight_q q
-  weight_s (If t a b) = weight_t t + weight_q a + weight_q b + 1
+  weight_s (If t a b) = weight_t t + weight_q a + weight_q b + 2
   weight_s (For i a b c q) = weight a + weight b + weight c + weight_q q + 4
   weight_s (To i n q) = weight n + weight_q q + 2
   weight_s (While t q) = weight_t t + weight_q q + 2
@@ -62,7 +62,7 @@ weight_of (Args xs) = weight_all xs
 weight_of (Try t) = weight_t t
 weight_of (AndThen t) = weight_t t + 1
 weight_of (OrElse t) = weight_t t + 1
-weight_of (Choose a b) = weight_q a + weight_q b + 1
+weight_of (Choose a b) = weight_q a + weight_q b + 2
 weight_of (Decide t q) = weight_q q + 2
 weight_of (CountFor i q) = weight_q q + 2
 weight_of (CountTo i q) = weight_q q + 2

@@ -3,6 +3,7 @@
 ghost use Rattle.std.specs.Prelude.{◌≡◌, ◌+◌, ◌-◌, ◌<◌, ◌≤◌, suc, IfOk, OnOk, ◌∷◌, slice_get, slice_set};
 ghost use Rattle.rt_work.specs.Task as task;
 ghost use Rattle.rt_work.specs.Nodes as n;
+ghost use Rattle.rt_tree_nodes.specs.Tree.{Term};
 ghost use Rattle.rt_work.specs.declared.scene.Env.{Env};
 
 use crate::node::{CondNode, LabelsNode, SeqNode};
@@ -75,8 +76,8 @@ fn compared(relation: Rel, a: &Datum, b: &Datum) -> Option<bool>
 }
 
 pub fn compare(scene: &mut Scene, relation: Rel) -> Done
-    ensures does { IfOk result (λ o. (e : Env) → n.Does e (task.Compare relation) scene.old scene.new o) }
-    ensures lighter { IfOk result (λ o. n.Lightens (task.Compare relation) scene.old scene.new o) }
+    ensures does { IfOk result (λ o. (e : Env) (a b : Term) → n.Does e (task.Compare relation a b) scene.old scene.new o) }
+    ensures lighter { IfOk result (λ o. (a b : Term) → n.Lightens (task.Compare relation a b) scene.old scene.new o) }
 {
     match any(scene) {
         Some(b) => match any(scene) {
@@ -132,7 +133,7 @@ pub fn choose(scene: &mut Scene, a: Rc<SeqNode>, b: Rc<SeqNode>) -> Done
         None => lacks(),
         Some(c) => {
             if c {
-                scene.todo.push(Item::Do(a))?;
+                then_body(scene, a, Item::PastElse)?;
                 Ok(None)
             } else {
                 scene.todo.push(Item::Do(b))?;
@@ -144,7 +145,7 @@ pub fn choose(scene: &mut Scene, a: Rc<SeqNode>, b: Rc<SeqNode>) -> Done
 
 // ---- loops
 
-// The body of a loop, and on its end a further thing to do.
+// What stands behind a THEN, or the body of a loop, and on its end a further thing to do.
 fn then_body(scene: &mut Scene, q: Rc<SeqNode>, after: Item) -> Result<(), Memory>
     ensures todo { OnOk result (n.items scene.new.todo ≡ task.Do (n.seq q.value) ∷ n.item after ∷ n.items scene.old.todo) }
     ensures values { scene.new.values ≡ scene.old.values }

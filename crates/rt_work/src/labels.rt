@@ -146,7 +146,7 @@ fn add_inside(
     match s {
         StmtNode::Inner(q) => add_labels(alloc, q, todo, leads),
         StmtNode::If(_, a, b) => {
-            add_labels(alloc, a, todo, leads)?;
+            add_turned(alloc, Item::PastElse, a, todo, leads)?;
             add_labels(alloc, b, todo, leads)
         }
         StmtNode::For(i, _, _, _, q) => {
@@ -160,19 +160,19 @@ fn add_inside(
     }
 }
 
-/// Adds the labels of a sequence that is done turn by turn.
+/// Adds the labels of a sequence on whose end there is a further thing to do.
 #[cycle(label)]
 fn add_turned(
     alloc: Global,
-    turn: Item,
+    after: Item,
     q: &SeqNode,
     todo: &mut Stack<Item>,
     leads: &mut Leads,
 ) -> Result<(), Memory>
     ensures todo { OnOk result (todo.new ≡ todo.old) }
-    ensures leads { OnOk result ((label : ℕ) → lead_from leads.new label ≡ task.or_else (lead_from leads.old label) (task.from_label label (n.seq q.now) (n.item turn ∷ n.items todo.old))) }
+    ensures leads { OnOk result ((label : ℕ) → lead_from leads.new label ≡ task.or_else (lead_from leads.old label) (task.from_label label (n.seq q.now) (n.item after ∷ n.items todo.old))) }
 {
-    todo.push(turn)?;
+    todo.push(after)?;
     add_labels(alloc, q, todo, leads)?;
     let _ = todo.pop();
     Ok(())

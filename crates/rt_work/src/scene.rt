@@ -46,8 +46,10 @@ pub enum Item {
     Args(Rc<TermsNode>),
     /// A place becomes what is read there.
     Fetch,
-    Into(u16),
-    Pick(u16),
+    /// The path is that of the place.
+    Into(Rc<PathNode>, u16),
+    /// The path is that of the array.
+    Pick(Rc<PathNode>, u16),
     PickRow,
     Span(u16),
     Tell(u16),
@@ -56,17 +58,23 @@ pub enum Item {
     Merge(Op2),
     Split(Op2),
     Report(u16),
+    /// A number that is known goes on the values.
+    Stand(u16),
     /// The call of a brick with as many values as these arguments are.
     Enter(u16, Rc<TermsNode>),
     EnterBy(Rc<TermsNode>),
     Local(u32),
-    Save,
+    /// The value, which is that of the term, is written at the place of the path.
+    Save(Rc<PathNode>, Rc<TermNode>),
     Toss,
-    Compare(Rel),
+    /// The values are those of the two terms.
+    Compare(Rel, Rc<TermNode>, Rc<TermNode>),
     Try(Rc<CondNode>),
     AndThen(Rc<CondNode>),
     OrElse(Rc<CondNode>),
     Choose(Rc<SeqNode>, Rc<SeqNode>),
+    /// The end of what stands behind a THEN.
+    PastElse,
     Decide(Rc<CondNode>, Rc<SeqNode>),
     Again(Rc<CondNode>, Rc<SeqNode>),
     CountFor(u16, Rc<SeqNode>),

@@ -76,7 +76,8 @@ fn read_inside(alloc: Global, contents: &Contents, path: &[u16]) -> Result<Datum
     }
 }
 
-fn read_own(alloc: Global, own: &List<Datum>, item: u8) -> Result<Datum, Memory>
+/// What is read of an item of a task's own supplied data.
+pub fn read_own(alloc: Global, own: &List<Datum>, item: u8) -> Result<Datum, Memory>
     ensures { IfOk result (λ d. d ≡ stores.datum_in (slice_get own.now item)) }
 {
     match own.get(usize::from(item)) {

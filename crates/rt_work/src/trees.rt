@@ -8,7 +8,7 @@ ghost use Rattle.rt_work.specs.declared.scene.Env.{Env};
 use crate::copies::copy_datum;
 use crate::node::{CondNode, LabelsNode, PathNode, SeqNode, StmtNode, TermNode, TermsNode};
 use crate::scene::{Env, Item, Next, Scene};
-use rt_tree::{Datum, Location, Origin, Proc};
+use rt_tree::{Datum, Location, Origin, Proc, Rel};
 use rt_words::{List, Memory};
 use std::alloc::Global;
 use std::rc::Rc;
@@ -140,6 +140,30 @@ fn then_test(scene: &mut Scene, t: &Rc<CondNode>, after: Item) -> Done
     Ok(None)
 }
 
+fn into_item(p: &Rc<PathNode>, field: u16) -> Result<Item, Memory>
+    ensures { IfOk result (λ i. n.item i ≡ task.Into (n.path p.now.value) field) }
+{
+    Ok(Item::Into(p.clone()?, field))
+}
+
+fn pick_item(p: &Rc<PathNode>, length: u16) -> Result<Item, Memory>
+    ensures { IfOk result (λ i. n.item i ≡ task.Pick (n.path p.now.value) length) }
+{
+    Ok(Item::Pick(p.clone()?, length))
+}
+
+fn save_item(p: &Rc<PathNode>, v: &Rc<TermNode>) -> Result<Item, Memory>
+    ensures { IfOk result (λ i. n.item i ≡ task.Save (n.path p.now.value) (n.term v.now.value)) }
+{
+    Ok(Item::Save(p.clone()?, v.clone()?))
+}
+
+fn compare_item(relation: Rel, a: &Rc<TermNode>, b: &Rc<TermNode>) -> Result<Item, Memory>
+    ensures { IfOk result (λ i. n.item i ≡ task.Compare relation (n.term a.now.value) (n.term b.now.value)) }
+{
+    Ok(Item::Compare(relation, a.clone()?, b.clone()?))
+}
+
 fn choose_item(a: &Rc<SeqNode>, b: &Rc<SeqNode>) -> Result<Item, Memory>
     ensures { IfOk result (λ i. n.item i ≡ task.Choose (n.seq a.now.value) (n.seq b.now.value)) }
 {
@@ -208,7 +232,7 @@ fn stmt(scene: &mut Scene, a: &StmtNode) -> Done
             scene.set_local(usize::from(*i), Datum::Word(0));
             Ok(None)
         }
-        StmtNode::Put(_, p, v) => then_place(scene, p, v, Item::Save),
+        StmtNode::Put(_, p, v) => then_place(scene, p, v, save_item(p, v)?),
         StmtNode::Run(v) => only_eval(scene, v),
         StmtNode::Toss(v) => then_eval(scene, v, Item::Toss),
         StmtNode::Goto(l) => Ok(Some(Next::Leaps(*l))),
@@ -250,7 +274,7 @@ pub fn cond(scene: &mut Scene, t: &CondNode) -> Done
     ensures lighter { IfOk result (λ o. n.Lightens (task.Try (n.cond t.now)) scene.old scene.new o) }
 {
     match t {
-        CondNode::Is(r, a, b) => then_both(scene, a, b, Item::Compare(*r)),
+        CondNode::Is(r, a, b) => then_both(scene, a, b, compare_item(*r, a, b)?),
         CondNode::Both(t, u) => then_test(scene, t, Item::AndThen(u.clone()?)),
         CondNode::Either(t, u) => then_test(scene, t, Item::OrElse(u.clone()?)),
     }
@@ -271,7 +295,7 @@ pub fn brick_at(env: &Env, brick: u16) -> Proc
 
 // An item of a data brick.
 fn item_at(alloc: Global, env: &Env, brick: u16, item: u16) -> Result<Location, Memory>
-    ensures { IfOk result (λ x. x ≡ (n.env env.now).item brick item) }
+    ensures { IfOk result (λ x. x ≡ task.item (n.env env.now) brick item) }
 {
     let found = brick_at(env, brick);
     let mut path = List::new(alloc, 1)?;
@@ -281,7 +305,7 @@ fn item_at(alloc: Global, env: &Env, brick: u16, item: u16) -> Result<Location, 
 
 // The row of a string.
 fn text_at(alloc: Global, env: &Env, text: u16) -> Datum
-    ensures { result ≡ (n.env env.now).text text }
+    ensures { result ≡ task.text (n.env env.now) text }
 {
     let path = List::from_vec(Vec::new(alloc));
     let origin = Origin::Text(env.module, text);
@@ -358,8 +382,8 @@ pub fn path(alloc: Global, env: &Env, scene: &mut Scene, p: &PathNode) -> Done
             give(scene, Datum::Reference(location))
         }
         PathNode::Svc(k) => give(scene, Datum::Reference(Location::Own(*k))),
-        PathNode::FieldOf(p, _, k) => then_at(scene, p, Item::Into(*k)),
-        PathNode::Elem(p, v, k, _) => then_place(scene, p, v, Item::Pick(*k)),
+        PathNode::FieldOf(p, _, k) => then_at(scene, p, into_item(p, *k)?),
+        PathNode::Elem(p, v, k, _) => then_place(scene, p, v, pick_item(p, *k)?),
         PathNode::ElemRow(a, v, _) => then_both(scene, a, v, Item::PickRow),
         PathNode::Past(v) => only_eval(scene, v),
     }

@@ -4,6 +4,7 @@ ghost use Rattle.std.specs.Prelude.{◌≡◌, ◌+◌, ◌<◌, IfOk, OnOk, ◌
 ghost use Rattle.rt_work.specs.Task as task;
 ghost use Rattle.rt_work.specs.Stores as stores;
 ghost use Rattle.rt_work.specs.Nodes as n;
+ghost use Rattle.rt_tree_nodes.specs.Tree.{Path, Term};
 ghost use Rattle.rt_work.specs.declared.scene.Env.{Env};
 
 use crate::node::TermsNode;
@@ -107,8 +108,8 @@ fn deeper(location: Location, k: u16) -> Result<Location, Memory>
 }
 
 pub fn into(scene: &mut Scene, k: u16) -> Done
-    ensures does { IfOk result (λ o. (e : Env) → n.Does e (task.Into k) scene.old scene.new o) }
-    ensures lighter { IfOk result (λ o. n.Lightens (task.Into k) scene.old scene.new o) }
+    ensures does { IfOk result (λ o. (e : Env) (p : Path) → n.Does e (task.Into p k) scene.old scene.new o) }
+    ensures lighter { IfOk result (λ o. (p : Path) → n.Lightens (task.Into p k) scene.old scene.new o) }
 {
     match place(scene) {
         Some(p) => {
@@ -133,8 +134,8 @@ fn picked(scene: &mut Scene, array: Location, subscript: u16, length: u16) -> Do
 }
 
 pub fn pick(scene: &mut Scene, length: u16) -> Done
-    ensures does { IfOk result (λ o. (e : Env) → n.Does e (task.Pick length) scene.old scene.new o) }
-    ensures lighter { IfOk result (λ o. n.Lightens (task.Pick length) scene.old scene.new o) }
+    ensures does { IfOk result (λ o. (e : Env) (p : Path) → n.Does e (task.Pick p length) scene.old scene.new o) }
+    ensures lighter { IfOk result (λ o. (p : Path) → n.Lightens (task.Pick p length) scene.old scene.new o) }
 {
     match word(scene) {
         Some(subscript) => match place(scene) {
@@ -214,7 +215,7 @@ pub fn merge(scene: &mut Scene, operator: Op2) -> Done
     }
 }
 
-// What a division gives; where it fails, ERP is read, and the value is 0.
+// What a division gives; where it fails, ERP is read and called, and then the value is 0.
 fn shared(scene: &mut Scene, share: Share) -> Done
     ensures does { IfOk result (λ o. (e : Env) → task.share_then share (n.items scene.old.todo) (λ us ks. task.next (n.env e) (n.items scene.old.todo) us ks) scene.old.values scene.old.locals ≡ n.onward e o scene.new.todo scene.new.values scene.new.locals) }
     ensures todo { IfOk result (λ o. o ≡ None → scene.new.todo ≡ scene.old.todo) }
@@ -222,7 +223,7 @@ fn shared(scene: &mut Scene, share: Share) -> Done
     match share {
         Share::Gives(k) => give(scene, Datum::Word(k)),
         Share::Fails(k) => {
-            scene.values.push(Datum::Word(0))?;
+            scene.todo.push(Item::Stand(0))?;
             scene.todo.push(Item::Report(k))?;
             Ok(Some(Next::Reads(Location::Own(2))))
         }
@@ -309,8 +310,8 @@ pub fn local(scene: &mut Scene, local: u32) -> Done
 }
 
 pub fn save(scene: &mut Scene) -> Done
-    ensures does { IfOk result (λ o. (e : Env) → n.Does e task.Save scene.old scene.new o) }
-    ensures lighter { IfOk result (λ o. n.Lightens task.Save scene.old scene.new o) }
+    ensures does { IfOk result (λ o. (e : Env) (p : Path) (v : Term) → n.Does e (task.Save p v) scene.old scene.new o) }
+    ensures lighter { IfOk result (λ o. (p : Path) (v : Term) → n.Lightens (task.Save p v) scene.old scene.new o) }
 {
     match any(scene) {
         Some(v) => match place(scene) {

@@ -9,11 +9,12 @@ use crate::control::{
     to_label, turn_for, turn_to,
 };
 use crate::scene::{Env, Item, Next, Scene};
-use crate::trees::{Done, args, cond, path, seq, term};
+use crate::trees::{Done, args, cond, give, path, seq, term};
 use crate::values::{
     alter, enter, enter_by, fetch, into, length_of, local, merge, pick, pick_row, report, save,
     span, split, tell, toss,
 };
+use rt_tree::Datum;
 use rt_words::{List, Memory};
 use std::alloc::Global;
 
@@ -40,8 +41,8 @@ fn one(alloc: Global, env: &Env, scene: &mut Scene, item: Item) -> Done
         Item::At(p) => path(alloc, env, scene, &p),
         Item::Args(vs) => args(scene, &vs),
         Item::Fetch => fetch(scene),
-        Item::Into(k) => into(scene, k),
-        Item::Pick(k) => pick(scene, k),
+        Item::Into(_, k) => into(scene, k),
+        Item::Pick(_, k) => pick(scene, k),
         Item::PickRow => pick_row(scene),
         Item::Span(k) => span(scene, k),
         Item::Tell(k) => tell(scene, k),
@@ -50,16 +51,18 @@ fn one(alloc: Global, env: &Env, scene: &mut Scene, item: Item) -> Done
         Item::Merge(o) => merge(scene, o),
         Item::Split(o) => split(scene, o),
         Item::Report(k) => report(alloc, scene, k),
+        Item::Stand(k) => give(scene, Datum::Word(k)),
         Item::Enter(b, vs) => enter(alloc, env, scene, b, &vs),
         Item::EnterBy(vs) => enter_by(alloc, scene, &vs),
         Item::Local(i) => local(scene, i),
-        Item::Save => save(scene),
+        Item::Save(_, _) => save(scene),
         Item::Toss => toss(scene),
-        Item::Compare(r) => compare(scene, r),
+        Item::Compare(r, _, _) => compare(scene, r),
         Item::Try(t) => cond(scene, &t),
         Item::AndThen(t) => and_then(scene, t),
         Item::OrElse(t) => or_else(scene, t),
         Item::Choose(a, b) => choose(scene, a, b),
+        Item::PastElse => Ok(None),
         Item::Decide(t, q) => decide(scene, t, q),
         Item::Again(t, q) => again(scene, t, q),
         Item::CountFor(i, q) => count_for(scene, i, q),

@@ -6,3 +6,6 @@ returns-clause-fit c = texts_make_systems c.items_are_in_range.ensures c.names_a
 
 pub returns-clause-typed : goal.returns-clause-typed
 returns-clause-typed c = λ ps ts hs texts matched tasks may. c.stores_stay_typed.ensures ps ts hs (returns-clause-fit c ps texts matched) tasks may
+
+pub returns-clause-runs : goal.returns-clause-runs
+returns-clause-runs c = λ ps ts placements input n r texts matched tasks bytes e. c.source_runs_fit.ensures.systems ps ts placements input n r (returns-clause-fit c ps texts matched) tasks bytes e

@@ -2,9 +2,9 @@ use Rattle.std.proofs.Common.{refl}
 use Rattle.rt_work.proofs.Calls.{after_none}
 use Rattle.rt_work.proofs.trees.stmt.Goals as goal
 
-pub returns-in-Put-clause-does : goal.returns-in-Put-clause-does
-returns-in-Put-clause-does c =
-    after_none _ _ c.then_place.ensures.none c.then_place.ensures.todo (λ todo. λ e. rw (todo, c.then_place.ensures.values, c.then_place.ensures.locals, c.in-Put.is) refl)
+pub returns-in_ok-save_item-in-Put-clause-does : goal.returns-in_ok-save_item-in-Put-clause-does
+returns-in_ok-save_item-in-Put-clause-does c =
+    after_none _ _ c.then_place.ensures.none c.then_place.ensures.todo (λ todo. λ e. rw (todo, c.in_ok-save_item-in-Put.ensures, c.then_place.ensures.values, c.then_place.ensures.locals, c.in-Put.is) refl)
 
 pub returns-in_ok-choose_item-in-If-clause-does : goal.returns-in_ok-choose_item-in-If-clause-does
 returns-in_ok-choose_item-in-If-clause-does c =

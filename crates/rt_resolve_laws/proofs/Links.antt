@@ -1,5 +1,5 @@
 -- To what the bricks of a module are bound.
-use Rattle.std.proofs.Common.{◌≡◌, ℕ, zero, suc, ◌+◌, Bool, true, false, if◌then◌else◌, List, [], ◌∷◌, Option, Some, None, slice_get, refl, sym, ap, ◌∙◌, subst, arith}
+use Rattle.std.proofs.Common.{◌≡◌, ℕ, zero, suc, ◌+◌, ◌&&◌, Bool, true, false, if◌then◌else◌, List, [], ◌∷◌, Option, Some, None, slice_get, refl, sym, ap, ◌∙◌, subst, arith}
 use Rattle.std.specs.Str.{bytes_eq}
 use Rattle.std.proofs.lemmas.Slice.Eq.{bytes_eq-Decides}
 use Rattle.rt_modes.specs.declared.mode.Mode.{Mode}
@@ -15,10 +15,16 @@ use Rattle.rt_tree.specs.Modules.{is_here}
 use Rattle.rt_tree.specs.Stored as s
 use Rattle.rt_tree.specs.Stored.{System, HasBrick, StandsFor, module_of}
 use Rattle.rt_resolve.specs.Bindings.{is_ent, enters, entry_from, entry, or_else, proc_or_none, bound_by, bound, bounds_from, bounds}
-use Rattle.rt_meaning_laws.specs.Systems.{SystemFits}
-use Rattle.rt_resolve.specs.Matching.{SuppliedSame}
-use Rattle.rt_meaning_laws.proofs.Soundness.{number_of_name}
-use Rattle.rt_meaning_laws.proofs.Small.{left_of, right_of}
+use Rattle.rt_resolve.specs.Matching.{SuppliedSame, Matched}
+use Rattle.rt_resolve_laws.proofs.Names.{number_of_name}
+
+left_of : (a b : Bool) → a && b ≡ true → a ≡ true
+left_of true b e = refl
+left_of false b e = e
+
+right_of : (a b : Bool) → a && b ≡ true → b ≡ true
+right_of true b e = e
+right_of false b e = absurd cc
 
 -- ---- the search for an entry
 
@@ -101,7 +107,7 @@ from_one m j h = omega arith
 after_one : (i j : ℕ) → i ≡ 1 + j → i ≡ suc j
 after_one i j h = omega arith
 
-module _ (ps : System) (fits : SystemFits ps) where
+module _ (ps : System) (fits : Matched ps) where
   -- the entry of a name is found where it stands
   pub entry_is : {n c : ℕ} {q : ModuleParts} {e : Brick} (name : List ℕ) → HasBrick ps n c q e → e.kind ≡ kind.Ent → e.name ≡ name → entry name 1 ps ≡ Some (s.brick n c)
   entry_is {n} {c} {q} {e} name h k g =
@@ -109,7 +115,7 @@ module _ (ps : System) (fits : SystemFits ps) where
       let r = found_all name 1 ps num.0 c q e num.2 h.at (ent_enters name e k g) in
       let w = in_modules name 1 ps r.0 r.1 in
       let there : HasBrick ps w.0 w.2 w.3 w.4 = record { of = ap (module_of ps) (after_one w.0 w.1 w.6) ∙ w.7; at = w.8 } in
-      let same = fits.matched.one there (entering_ent name w.4 w.9) h k (entering_name name w.4 w.9 ∙ sym g) in
+      let same = fits.one there (entering_ent name w.4 w.9) h k (entering_name name w.4 w.9 ∙ sym g) in
       r.1 ∙ ap (λ (f : Proc). Some f) w.5 ∙ ap (λ (i : ℕ). Some (s.brick i w.2)) same.0 ∙ ap (λ (i : ℕ). Some (s.brick n i)) same.1
 
   -- an own, ENT or EXT brick is bound to what it stands for
@@ -117,11 +123,11 @@ module _ (ps : System) (fits : SystemFits ps) where
   bound_by_kind kind.Own e h proc = s.itself h (ap is_here e)
   bound_by_kind kind.Ent e h proc = s.itself h (ap is_here e)
   bound_by_kind {m} {b} {p} {d} kind.Ext e h proc =
-      let link = fits.matched.entries h e in
+      let link = fits.entries h e in
       subst (λ (o : Option Proc). StandsFor ps m b (proc_or_none o)) (sym (entry_is d.name link.4 link.5 link.6)) (s.entry h e link.4 link.5 link.6)
   bound_by_kind {m} {b} {p} {d} kind.Svc e h proc =
       let so = proc refl in
-      let link : SuppliedSame p d (sort.Proc so.0 so.1) = subst (λ (z : BrickSort). SuppliedSame p d z) so.2 (fits.matched.supplied h e) in
+      let link : SuppliedSame p d (sort.Proc so.0 so.1) = subst (λ (z : BrickSort). SuppliedSame p d z) so.2 (fits.supplied h e) in
       subst (λ (i : ℕ). StandsFor ps m b (s.brick 0 i)) (sym (number_of_name link.0 d.name link.2)) (s.supplied h e link.2)
 
   pub bound_stands : {m b : ℕ} {p : ModuleParts} {d : Brick} → HasBrick ps m b p d → ((d.kind ≡ kind.Svc) → (w : Mode) × (body : Option ProcBody) × (d.sort ≡ sort.Proc w body)) → StandsFor ps m b (bound ps m b d)

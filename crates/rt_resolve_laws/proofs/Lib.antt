@@ -1,0 +1,5 @@
+pub mod Names
+pub mod Links
+pub mod Resolved
+mod Contents
+mod Reading
