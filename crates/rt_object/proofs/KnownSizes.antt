@@ -1,17 +1,18 @@
 -- What the sizes of records that are counted say of fields and of bad records.
-use Rattle.std.proofs.Common.{◌≡◌, ℕ, ◌<◌, ◌≤◌, inl, inr, Bool, true, false, if◌then◌else◌, leb, nat_le, List, Option, Some, None, IsTrue, IfOk, Result, Ok, Err, refl, sym, ap, ◌∙◌, arith}
-use Rattle.std.proofs.lemmas.Bool.{leb-true}
+use Rattle.std.proofs.Common.{◌≡◌, ℕ, ◌<◌, ◌≤◌, ◌⊎◌, ◌||◌, eqb, subst, inl, inr, Bool, true, false, if◌then◌else◌, leb, nat_le, List, Option, Some, None, refl, sym, ap, ◌∙◌, arith}
+use Rattle.std.proofs.lemmas.Bool.{eqb-true, leb-true}
+use Rattle.std.proofs.lemmas.Bool.Decides.{nat_tests}
 use Rattle.rt_modes.specs.declared.mode.Field.{Field}
 use Rattle.rt_modes.specs.declared.mode.RecordDef.{RecordDef}
+use Rattle.rt_sizes.specs.Alone.{IsFirstRing}
 use Rattle.rt_sizes.specs.Capped.{counted, size_in, AreSizes}
 use Rattle.rt_sizes.specs.Containing.{Contains}
 use Rattle.rt_sizes.specs.Sizes.{End, within}
 use Rattle.rt_sizes.specs.declared.size.Size.{Size}
 use Rattle.rt_sizes.specs.declared.size.Size.TheVariants as size
 use Rattle.rt_sizes.proofs.Kept.{some_counted}
-use Rattle.rt_words.specs.declared.memory.Memory.{Memory}
 use Rattle.rt_object.specs.Grammar.{size_of, is_within_most}
-use Rattle.rt_object.specs.Known.{is_too_large}
+use Rattle.rt_object.specs.Known.{is_too_large, is_at}
 use Rattle.rt_object.specs.Ranges.{table_of, IsBadRecord}
 use Rattle.rt_object.proofs.Depth.{end_is_size, size_is_end}
 
@@ -87,18 +88,42 @@ module _ (records : List RecordDef) (sizes : List (Option Size)) (h : AreSizes (
   large_is (Some size.TooLarge) e = refl
   large_is (Some (size.Bytes n)) e = absurd cc
 
-  pub large_bad : is_too_large (size_in sizes k) ≡ true → IsBadRecord records k
+  large_bad : is_too_large (size_in sizes k) ≡ true → IsBadRecord records k
   large_bad e = too_large (large_is (size_in sizes k) e)
 
-  pub not_large : is_too_large (size_in sizes k) ≡ false → size_in sizes k ≡ Some size.TooLarge → ⊥
+  not_large : is_too_large (size_in sizes k) ≡ false → size_in sizes k ≡ Some size.TooLarge → ⊥
   not_large e f = let bad : true ≡ false = sym (ap is_too_large f) ∙ e in cc
 
-  ring_told : (b : Bool) → (size_in sizes k ≡ Some size.TooLarge → ⊥) → (IsTrue b → Contains records k k) × (Contains records k k → IsTrue b) → (IsTrue b → IsBadRecord records k) × (IsBadRecord records k → IsTrue b)
-  ring_told b fine g = (λ t. inl (g.0 t), λ bad. g.1 (bad_is_ring fine bad))
+  ring_is : (ring : Option ℕ) → IsFirstRing records ring → is_at ring k ≡ true → Contains records k k
+  ring_is None h e = absurd cc
+  ring_is (Some j) h e = subst (λ i. Contains records i i) (eqb-true j k e) h.0
 
-  pub fine_alone : is_too_large (size_in sizes k) ≡ false → (Contains records k k → ⊥) → IsBadRecord records k → ⊥
-  fine_alone e alone bad = alone (bad_is_ring (not_large e) bad)
+  pub found_bad : (ring : Option ℕ) → IsFirstRing records ring → (is_at ring k || is_too_large (size_in sizes k)) ≡ true → IsBadRecord records k
+  found_bad ring h e = by (is_at ring k) refl e
+    where
+      by : (b : Bool) → is_at ring k ≡ b → (b || is_too_large (size_in sizes k)) ≡ true → IsBadRecord records k
+      by true f g = inl (ring_is ring h f)
+      by false f g = large_bad g
 
-  pub bad_told : (r : Result Bool Memory) → is_too_large (size_in sizes k) ≡ false → IfOk r (λ b. (IsTrue b → Contains records k k) × (Contains records k k → IsTrue b)) → IfOk r (λ b. (IsTrue b → IsBadRecord records k) × (IsBadRecord records k → IsTrue b))
-  bad_told (Ok b) e g = ring_told b (not_large e) g
-  bad_told (Err m) e g = g
+  same_test : (j : ℕ) → eqb j j ≡ true
+  same_test j = grind (arith, nat_tests)
+
+  -- a record that contains itself is the first, or stands behind it
+  pub no_ring : (ring : Option ℕ) → IsFirstRing records ring → ((j : ℕ) → j < k → IsBadRecord records j → ⊥) → is_at ring k ≡ false → Contains records k k → ⊥
+  no_ring None h none e c = h k c
+  no_ring (Some j) h none e c = by (order j k)
+    where
+      order : (j k : ℕ) → (j < k) ⊎ ((j ≡ k) ⊎ (k < j))
+      order j k = grind arith
+
+      by : (j < k) ⊎ ((j ≡ k) ⊎ (k < j)) → ⊥
+      by (inl before) = none j before (inl h.0)
+      by (inr (inl same)) = let bad : true ≡ false = sym (same_test k) ∙ ap (λ i. eqb i k) (sym same) ∙ e in cc
+      by (inr (inr behind)) = h.1 k behind c
+
+  pub none_found : (ring : Option ℕ) → IsFirstRing records ring → ((j : ℕ) → j < k → IsBadRecord records j → ⊥) → (is_at ring k || is_too_large (size_in sizes k)) ≡ false → IsBadRecord records k → ⊥
+  none_found ring h none e bad = by (is_at ring k) refl e
+    where
+      by : (b : Bool) → is_at ring k ≡ b → (b || is_too_large (size_in sizes k)) ≡ false → ⊥
+      by true f g = cc
+      by false f g = no_ring ring h none f (bad_is_ring (not_large g) bad)

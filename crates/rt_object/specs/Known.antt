@@ -1,5 +1,5 @@
 -- What is known while an object is read.
-use Rattle.std.specs.Prelude.{◌≡◌, ℕ, ◌<◌, nat_le, not, Bool, false, List, length, Option, Some, None, Vec, Result, Ok, Err}
+use Rattle.std.specs.Prelude.{◌≡◌, ℕ, ◌<◌, ◌==◌, ◌||◌, nat_le, not, Bool, false, List, length, Option, Some, None, Vec, Result, Ok, Err}
 use Rattle.std.specs.BTreeSet.{BTreeSet, contains_by}
 use Rattle.std.specs.Cmp.Lexicographic.{slice_cmp}
 use Rattle.std.specs.List.{list_any}
@@ -9,7 +9,7 @@ use Rattle.rt_formats.specs.Format.{Format}
 use Rattle.rt_formats.specs.declared.stop.Stop.{Stop}
 use Rattle.rt_formats.specs.declared.stop.Stop.TheVariants as stop
 use Rattle.rt_modes.specs.declared.mode.RecordDef.{RecordDef}
-use Rattle.rt_sizes.specs.Capped.{is_within}
+use Rattle.rt_sizes.specs.Capped.{is_within, size_in}
 use Rattle.rt_sizes.specs.declared.size.Size.{Size}
 use Rattle.rt_object.specs.declared.object.Relocation.{Relocation}
 use Rattle.rt_object.specs.Grammar.{is_behind, IsFirstBad}
@@ -31,6 +31,15 @@ AreAbove least before = (k : ℕ) → not (list_any (λ m. nat_le k m) before) �
 abbrev pub is_too_large : Option Size → Bool
 is_too_large None = false
 is_too_large (Some s) = not (is_within s)
+
+-- whether a record is the one that was found
+abbrev pub is_at : Option ℕ → ℕ → Bool
+is_at None k = false
+is_at (Some j) k = j == k
+
+-- whether a record is that, or is too large
+abbrev pub is_found : List (Option Size) → Option ℕ → ℕ → Bool
+is_found sizes ring k = is_at ring k || is_too_large (size_in sizes k)
 
 -- the first bad record, or that none is bad
 abbrev pub IsFirst : List RecordDef → Option ℕ → Type 0

@@ -1,13 +1,13 @@
 //! Records that contain themselves, or are too large.
 
-ghost use Rattle.std.specs.Prelude.{◌≡◌, ◌↔◌, Some, length, replicate, slice_get, true, IfOk, IsTrue};
-ghost use Rattle.rt_sizes.specs.Alone.{AreAlone};
+ghost use Rattle.std.specs.Prelude.{◌≡◌, ◌↔◌, length, replicate, true, IfOk, IsTrue};
+ghost use Rattle.rt_sizes.specs.Alone.{IsFirstRing};
 ghost use Rattle.rt_sizes.specs.Capped.{AreSizes, size_in};
-ghost use Rattle.rt_object.specs.Known.{IsFirst, is_too_large};
-ghost use Rattle.rt_object.specs.Ranges.{IsBadRecord, table_of};
+ghost use Rattle.rt_object.specs.Known.{IsFirst, is_at, is_found, is_too_large};
+ghost use Rattle.rt_object.specs.Ranges.{table_of};
 
 use rt_modes::RecordDef;
-use rt_sizes::{Size, contains_itself, mark_alone, record_sizes};
+use rt_sizes::{Size, first_ring, record_sizes};
 use rt_words::{List, Memory};
 use std::alloc::Global;
 
@@ -16,13 +16,46 @@ pub fn first_bad(alloc: Global, records: &[RecordDef]) -> Result<Option<usize>, 
     ensures { IfOk result (IsFirst records.now) }
 {
     let sizes = sizes_of(alloc, records)?;
-    let alone = mark_alone(alloc, records)?;
+    let ring = first_ring(alloc, records, sizes.as_slice())?;
+    Ok(first_of(records, sizes.as_slice(), ring))
+}
+
+/// The first record that is too large, or the first that contains itself, where it stands before that.
+fn first_of(records: &[RecordDef], sizes: &[Option<Size>], ring: Option<usize>) -> Option<usize>
+    requires sizes { AreSizes (table_of records.now) sizes.now }
+    requires ring { IsFirstRing records.now ring }
+    ensures { IsFirst records.now result }
+{
     for number in 0..records.len() {
-        if is_bad(alloc, records, sizes.as_slice(), alone.as_slice(), number)? {
-            return Ok(Some(number));
+        if is_found(sizes, ring, number) {
+            return Some(number);
         }
     }
-    Ok(None)
+    None
+}
+
+fn is_found(sizes: &[Option<Size>], ring: Option<usize>, number: usize) -> bool
+    ensures { result ≡ is_found sizes.now ring number }
+{
+    is_at(ring, number) || is_too_large(sizes, number)
+}
+
+fn is_at(ring: Option<usize>, number: usize) -> bool
+    ensures { result ≡ is_at ring number }
+{
+    match ring {
+        Some(first) => first == number,
+        None => false,
+    }
+}
+
+fn is_too_large(sizes: &[Option<Size>], number: usize) -> bool
+    ensures { result ≡ is_too_large (size_in sizes.now number) }
+{
+    match sizes.get(number) {
+        Some(Some(size)) => !size.is_within(),
+        _ => false,
+    }
 }
 
 /// The size of each record.
@@ -37,42 +70,4 @@ fn all_true(alloc: Global, count: usize) -> Result<Vec<bool>, Memory>
     ensures { IfOk result (λ known. known.items ≡ replicate count true) }
 {
     Ok(vec![in alloc; true; count]?)
-}
-
-fn is_bad(
-    alloc: Global,
-    records: &[RecordDef],
-    sizes: &[Option<Size>],
-    alone: &[bool],
-    number: usize,
-) -> Result<bool, Memory>
-    requires sizes { AreSizes (table_of records.now) sizes.now }
-    requires alone { AreAlone records.now alone.now }
-    ensures { IfOk result (λ b. IsTrue b ↔ IsBadRecord records.now number) }
-{
-    if is_too_large(sizes, number) {
-        Ok(true)
-    } else if is_marked(alone, number) {
-        Ok(false)
-    } else {
-        contains_itself(alloc, records, sizes, number)
-    }
-}
-
-fn is_too_large(sizes: &[Option<Size>], number: usize) -> bool
-    ensures { result ≡ is_too_large (size_in sizes.now number) }
-{
-    match sizes.get(number) {
-        Some(Some(size)) => !size.is_within(),
-        _ => false,
-    }
-}
-
-fn is_marked(marks: &[bool], number: usize) -> bool
-    ensures { IsTrue result ↔ slice_get marks.now number ≡ Some true }
-{
-    match marks.get(number) {
-        Some(mark) => *mark,
-        None => false,
-    }
 }

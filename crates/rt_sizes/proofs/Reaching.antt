@@ -195,13 +195,13 @@ less_left ms old ws next fs st a c =
 
 -- ---- at the end
 
-have_there : (rs : List RecordDef) (s u : ℕ) → HaveOne (fields_in (slice_get rs s)) u → s < length rs
+pub have_there : (rs : List RecordDef) (s u : ℕ) → HaveOne (fields_in (slice_get rs s)) u → s < length rs
 have_there [] s u h = absurd h
 have_there (r ∷ rs) zero u h = omega arith
 have_there (r ∷ rs) (suc s) u h = let l = have_there rs s u h in omega arith
 
 module _ (records : List RecordDef) where
-  container_there : (k s : ℕ) → Contains records k s → k < length records
+  pub container_there : (k s : ℕ) → Contains records k s → k < length records
   container_there k s (directly h) = have_there records k s h
   container_there k u (through c h) = container_there k _ c
 

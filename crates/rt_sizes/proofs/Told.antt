@@ -2,11 +2,10 @@
 use Rattle.std.proofs.Common.{◌≡◌, ℕ, zero, suc, ◌+◌, ◌<◌, ◌≤◌, ◌⊎◌, inl, inr, Bool, true, false, ◌&&◌, if◌then◌else◌, eqb, ltb, List, [], ◌∷◌, length, Option, Some, None, get_or, replicate, refl, sym, ap, subst, ◌∙◌, arith}
 use Rattle.std.specs.List.{slice_get, slice_set}
 use Rattle.std.proofs.lemmas.Bool.Decides.{nat_tests}
-use Rattle.rt_modes.specs.FullMode.{fields_in}
 use Rattle.rt_modes.specs.declared.mode.Field.{Field}
 use Rattle.rt_modes.specs.declared.mode.RecordDef.{RecordDef}
 use Rattle.rt_sizes.specs.Containing.{held, HaveOne, fields_of, Contains, directly, through}
-use Rattle.rt_sizes.proofs.Reaching.{none_marked}
+use Rattle.rt_sizes.proofs.Reaching.{have_there, none_marked}
 use Rattle.rt_sizes.specs.Alone.{AreAlone, AreRanks, rank, is_more, no_more, unmark_by, unmark}
 
 -- ---- rings
@@ -25,11 +24,6 @@ module _ (records : List RecordDef) (numbers : List ℕ) (ranks : AreRanks recor
   are_alone marks h k mark = ring_holds k (λ j one same. h j k one same mark)
 
 -- ---- fields
-
-have_there : (rs : List RecordDef) (s u : ℕ) → HaveOne (fields_in (slice_get rs s)) u → s < length rs
-have_there [] s u h = absurd h
-have_there (r ∷ rs) zero u h = omega arith
-have_there (r ∷ rs) (suc s) u h = let l = have_there rs s u h in omega arith
 
 fields_at : (rs : List RecordDef) (i : ℕ) (d : RecordDef) → i < length rs → fields_of rs i ≡ (get_or rs i d).fields
 fields_at [] i d h = absurd (omega arith)
@@ -143,3 +137,11 @@ module _ (numbers : List ℕ) where
 
 pub none_alone : (records : List RecordDef) (n : ℕ) → AreAlone records (replicate n false)
 none_alone records n k mark c = none_marked n k mark
+
+-- ---- the first ring
+
+pub none_more : (records : List RecordDef) (n : ℕ) → ((j : ℕ) → j < n → Contains records j j → ⊥) → (Contains records n n → ⊥) → (j : ℕ) → j < n + 1 → Contains records j j → ⊥
+none_more records n none fine j below way = elim (last j n below) [ inl same ↦ fine (subst (λ i. Contains records i i) same way) | inr less ↦ none j less way ]
+  where
+    last : (j n : ℕ) → j < n + 1 → (j ≡ n) ⊎ (j < n)
+    last j n below = grind arith

@@ -1,8 +1,13 @@
 -- How it is seen that a record doesn't contain itself.
-use Rattle.std.specs.Prelude.{◌≡◌, ℕ, ◌≤◌, ◌==◌, nat_lt, Bool, true, false, ◌&&◌, if◌then◌else◌, List, [], ◌∷◌, length, Option, Some, None, slice_get, slice_set}
+use Rattle.std.specs.Prelude.{◌≡◌, ℕ, ◌<◌, ◌≤◌, ◌==◌, nat_lt, Bool, true, false, ◌&&◌, if◌then◌else◌, List, [], ◌∷◌, length, Option, Some, None, slice_get, slice_set}
 use Rattle.rt_modes.specs.declared.mode.Field.{Field}
 use Rattle.rt_modes.specs.declared.mode.RecordDef.{RecordDef}
 use Rattle.rt_sizes.specs.Containing.{held, HaveOne, fields_of, Contains}
+
+-- the first record that contains itself, or that none does
+abbrev pub IsFirstRing : List RecordDef → Option ℕ → Type 0
+IsFirstRing records (Some k) = Contains records k k × ((j : ℕ) → j < k → Contains records j j → ⊥)
+IsFirstRing records None = (j : ℕ) → Contains records j j → ⊥
 
 -- the marked records don't contain themselves
 abbrev pub AreAlone : List RecordDef → List Bool → Type 0

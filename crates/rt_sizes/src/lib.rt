@@ -9,14 +9,15 @@
 mod alone;
 mod contain;
 mod fields;
+mod first;
 mod order;
 mod settle;
 mod size;
 mod value;
 mod walk;
 
-pub use alone::mark_alone;
 pub use contain::contains_itself;
 pub use fields::{data_size, field_offset, passing_field};
+pub use first::first_ring;
 pub use settle::record_sizes;
 pub use size::Size;

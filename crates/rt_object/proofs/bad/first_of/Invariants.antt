@@ -1,5 +1,5 @@
 use Rattle.rt_object.proofs.Decided.{NoneBad}
-use Rattle.rt_object.proofs.bad.first_bad.Given as goal
+use Rattle.rt_object.proofs.bad.first_of.Given as goal
 
 -- No record before this one is bad.
 abbrev pub invariant-loop-number : goal.invariant-loop-number
