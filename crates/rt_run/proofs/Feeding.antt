@@ -1,5 +1,6 @@
 -- What calls of an input gave, one after another.
-use Rattle.std.proofs.Common.{◌≡◌, ℕ, ◌+◌, Bool, true, false, ◌||◌, List, [], ◌∷◌, ◌++◌, length, drop, Option, Some, None, refl, sym, ap, ◌∙◌, subst, append_assoc, append-nil}
+use Rattle.std.proofs.Common.{◌≡◌, ◌<◌, ℕ, zero, suc, ◌+◌, Bool, true, false, ◌||◌, List, [], ◌∷◌, ◌++◌, length, drop, Option, Some, None, refl, sym, ap, ◌∙◌, subst, arith, append_assoc, append-nil}
+use Rattle.std.specs.Prelude.{slice_index}
 use Rattle.std.specs.Io.KnownBytes.{Keeps, Appends, Consumes, IsAtEnd}
 use Rattle.std.proofs.lemmas.List.{drop-drop}
 use Rattle.std.proofs.Math.Seq.{drop-append_seam}
@@ -8,13 +9,27 @@ use Rattle.rt_run.specs.Inputs.{Feed, feed, Gives, Ahead}
 not_true : {A : Type 0} → false ≡ true → A
 not_true e = absurd cc
 
+-- ---- bytes
+
+none_small : (k : ℕ) → slice_index [] k < 256
+none_small k = omega arith
+
+one_small : (b : ℕ) → b < 256 → (k : ℕ) → slice_index (b ∷ []) k < 256
+one_small b low zero = low
+one_small b low (suc k) = omega arith
+
+both_small : (x y : List ℕ) → ((k : ℕ) → slice_index x k < 256) → ((k : ℕ) → slice_index y k < 256) → (k : ℕ) → slice_index (x ++ y) k < 256
+both_small [] y f g k = g k
+both_small (b ∷ x) y f g zero = f 0
+both_small (b ∷ x) y f g (suc k) = both_small x y (λ j. f (suc j)) g k
+
 -- ---- one call
 
 pub gives_nothing : (f : Feed) → Gives f [] false f
-gives_nothing f = record { told = λ xs q. (xs, refl, q, λ e. not_true e); none = λ e. (refl, e); shut = λ e. not_true e }
+gives_nothing f = record { told = λ xs q. (xs, refl, q, λ e. not_true e); small = none_small; none = λ e. (refl, e); shut = λ e. not_true e }
 
-pub gives_byte : (left left2 : Option (List ℕ)) (ended ended2 : Bool) (b : ℕ) → Consumes left left2 (b ∷ []) → (ended ≡ true → ⊥) → Gives (feed left ended) (b ∷ []) false (feed left2 ended2)
-gives_byte left left2 ended ended2 b h more = record { told = λ xs q. by xs left left2 q h; none = λ e. absurd (more e); shut = λ e. not_true e }
+pub gives_byte : (left left2 : Option (List ℕ)) (ended ended2 : Bool) (b : ℕ) → b < 256 → Consumes left left2 (b ∷ []) → (ended ≡ true → ⊥) → Gives (feed left ended) (b ∷ []) false (feed left2 ended2)
+gives_byte left left2 ended ended2 b low h more = record { told = λ xs q. by xs left left2 q h; small = one_small b low; none = λ e. absurd (more e); shut = λ e. not_true e }
   where
     by : (xs : List ℕ) (o u : Option (List ℕ)) → o ≡ Some xs → Consumes o u (b ∷ []) → (rest : List ℕ) × (xs ≡ (b ∷ []) ++ rest) × (u ≡ Some rest) × (false ≡ true → rest ≡ [])
     by xs None u q k = absurd (let no : None ≡ Some xs = q in cc)
@@ -22,7 +37,7 @@ gives_byte left left2 ended ended2 b h more = record { told = λ xs q. by xs lef
     by xs (Some ys) (Some zs) q k = let same : ys ≡ xs = cc in (zs, sym same ∙ k, refl, λ e. not_true e)
 
 pub gives_end : (left left2 : Option (List ℕ)) (ended ended2 : Bool) → IsAtEnd left → Keeps left left2 → ended2 ≡ true → Gives (feed left ended) [] true (feed left2 ended2)
-gives_end left left2 ended ended2 h kept over = record { told = λ xs q. by xs left left2 q h kept; none = λ e. (refl, over); shut = λ e. over }
+gives_end left left2 ended ended2 h kept over = record { told = λ xs q. by xs left left2 q h kept; small = none_small; none = λ e. (refl, over); shut = λ e. over }
   where
     by : (xs : List ℕ) (o u : Option (List ℕ)) → o ≡ Some xs → IsAtEnd o → Keeps o u → (rest : List ℕ) × (xs ≡ [] ++ rest) × (u ≡ Some rest) × (true ≡ true → rest ≡ [])
     by xs None u q k l = absurd (let no : None ≡ Some xs = q in cc)
@@ -30,7 +45,7 @@ gives_end left left2 ended ended2 h kept over = record { told = λ xs q. by xs l
     by xs (Some ys) (Some zs) q k l = let same : ys ≡ xs = cc in ([], sym same ∙ k, ap Some (l ∙ k), λ e. refl)
 
 pub gives_no_answer : (left left2 : Option (List ℕ)) (ended ended2 : Bool) → Keeps left left2 → (ended ≡ true → ended2 ≡ true) → Gives (feed left ended) [] false (feed left2 ended2)
-gives_no_answer left left2 ended ended2 kept stays = record { told = λ xs q. by xs left left2 q kept; none = λ e. (refl, stays e); shut = λ e. not_true e }
+gives_no_answer left left2 ended ended2 kept stays = record { told = λ xs q. by xs left left2 q kept; small = none_small; none = λ e. (refl, stays e); shut = λ e. not_true e }
   where
     by : (xs : List ℕ) (o u : Option (List ℕ)) → o ≡ Some xs → Keeps o u → (rest : List ℕ) × (xs ≡ [] ++ rest) × (u ≡ Some rest) × (false ≡ true → rest ≡ [])
     by xs None u q l = absurd (let no : None ≡ Some xs = q in cc)
@@ -64,6 +79,7 @@ gives_more a b c x y o p h k = record {
       let m = h.told xs q in
       let n = k.told m.0 m.2 in
       (n.0, m.1 ∙ ap (λ (z : List ℕ). x ++ z) n.1 ∙ sym (append_assoc x y n.0), n.2, λ e. either_true o p (n.0 ≡ []) (λ d. back_empty y n.0 (sym n.1 ∙ m.3 d)) n.3 e);
+  small = both_small x y h.small k.small;
   none = λ e. let m = h.none e in let n = k.none m.1 in (both_empty x y m.0 n.0, n.1);
   shut = λ e. either_true o p (c.ended ≡ true) (λ d. (k.none (h.shut d)).1) k.shut e;
 }
@@ -75,6 +91,7 @@ gives_still a b c x o h k = record {
       let m = h.told xs q in
       let n = k.told m.0 m.2 in
       (n.0, m.1 ∙ ap (λ (z : List ℕ). x ++ z) n.1, n.2, λ e. sym n.1 ∙ m.3 e);
+  small = h.small;
   none = λ e. let m = h.none e in (m.0, (k.none m.1).1);
   shut = λ e. (k.none (h.shut e)).1;
 }

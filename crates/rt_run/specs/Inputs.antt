@@ -1,5 +1,5 @@
 -- What an input tells of itself, and what calls of it gave.
-use Rattle.std.specs.Prelude.{◌≡◌, ℕ, ◌++◌, Bool, true, List, [], Option, Some, drop}
+use Rattle.std.specs.Prelude.{◌≡◌, ◌<◌, ℕ, ◌++◌, Bool, true, List, [], Option, Some, drop, slice_index}
 
 -- what an input tells: the bytes that are left, where it tells them, and whether its end is reached
 pub record Feed : Type 0 where
@@ -13,6 +13,7 @@ feed left ended = record { left = left; ended = ended }
 -- all where the end was given. An input that has ended gives no byte, and stays so.
 pub record Gives (from : Feed) (bytes : List ℕ) (over : Bool) (to : Feed) : Type 0 where
   pub told : (xs : List ℕ) → from.left ≡ Some xs → (rest : List ℕ) × (xs ≡ bytes ++ rest) × (to.left ≡ Some rest) × (over ≡ true → rest ≡ [])
+  pub small : (k : ℕ) → slice_index bytes k < 256
   pub none : from.ended ≡ true → (bytes ≡ []) × (to.ended ≡ true)
   pub shut : over ≡ true → to.ended ≡ true
 
