@@ -188,6 +188,8 @@ fn other(w: u16) -> Option<Instr>
 }
 
 /// The instruction that a word begins, with 0 for each word that follows.
+// As a call its answer goes through memory byte by byte, and a machine waits for it half of its time.
+#[inline(always)]
 pub fn first(w: u16) -> Option<Instr>
     ensures { result ≡ first_of w }
 {
