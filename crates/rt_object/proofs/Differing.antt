@@ -8,7 +8,7 @@ use Rattle.rt_formats.proofs.Spelled.{AllStand}
 use Rattle.rt_object.specs.Grammar.{is_new}
 use Rattle.rt_object.specs.Ranges.{AreDifferent, Rise}
 
-either_way : (b : Bool) → (b ≡ true) ⊎ (b ≡ false)
+pub either_way : (b : Bool) → (b ≡ true) ⊎ (b ≡ false)
 either_way true = inl refl
 either_way false = inr refl
 
@@ -47,7 +47,7 @@ map_both f (u ∷ xs) more = ap (λ t. f u ∷ t) (map_both f xs more)
 differ : (a b : List ℕ) → bytes_eq a b ≡ false → a ≡ b → ⊥
 differ a b e f = let g = (bytes_eq-Decides a b).1 f in let h : true ≡ false = sym g ∙ e in cc
 
-either_any : (a b : Bool) → not (a || b) ≡ true → (a ≡ false) × (not b ≡ true)
+pub either_any : (a b : Bool) → not (a || b) ≡ true → (a ≡ false) × (not b ≡ true)
 either_any true b e = absurd cc
 either_any false b e = (refl, e)
 

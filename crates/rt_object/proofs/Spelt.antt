@@ -141,7 +141,7 @@ module _ {A B : Type 0} (P : Format A) (s : A → List ℕ) (K : A → Type 0) (
 
 -- ---- lists behind their number
 
-few_spelled : (n : ℕ) → n < 2 ^ 16 → word_bytes n ≡ count_spelling n
+pub few_spelled : (n : ℕ) → n < 2 ^ 16 → word_bytes n ≡ count_spelling n
 few_spelled n small = let e : n % 65536 ≡ n = omega arith in ap word_bytes (sym e)
 
 stand_bytes : {A : Type 0} (s : A → List ℕ) (S : List A → A → Type 0) → ((before : List A) (x : A) → S before x → AreBytes (s x)) → (before more : List A) → AllStand S before more → AreBytes (spell_all s more)

@@ -1,5 +1,5 @@
 -- What fits a brick is the spelling of a brick in its ranges, and the other way round.
-use Rattle.std.proofs.Common.{◌≡◌, ℕ, ◌%◌, ◌^◌, ◌<◌, ◌≤◌, Bool, true, false, List, [], ◌∷◌, ◌++◌, length, map, Some, None, refl, sym, ap, subst, ◌∙◌, arith}
+use Rattle.std.proofs.Common.{◌≡◌, ℕ, ◌^◌, ◌<◌, ◌≤◌, Bool, true, false, List, [], ◌∷◌, ◌++◌, length, map, Some, None, refl, sym, ap, subst, ◌∙◌, arith}
 use Rattle.std.specs.List.{AllByRecursion}
 use Rattle.std.proofs.lemmas.Bool.Decides.{nat_tests}
 use Rattle.rt_words.specs.Bytes.{word_bytes}
@@ -13,7 +13,7 @@ use Rattle.rt_modes.specs.declared.mode.RecordDef.{RecordDef}
 use Rattle.rt_object.specs.Grammar.{may_be, is_rrerr, is_proc, size_of, is_within_most, is_size}
 use Rattle.rt_object.specs.Grammar as spec
 use Rattle.rt_object.specs.Ranges.{IsWord, IsName, IsProcMode, IsNoLabel, HaveFieldRanges, HaveSize, HaveRelocationRanges, HasCallRanges, HasProcRanges, HasDataRanges, HaveOutsideRanges, HasContentRanges, HasExternalRanges, HasSuppliedRanges, HasKindRanges, HasBrickRanges}
-use Rattle.rt_object.specs.Spelling.{count_spelling, counted_spelling, fields_spelling, block_spelling, relocations_spelling, call_spelling, code_spelling, proc_spelling, data_spelling, kind_spelling, content_spelling, external_spelling, supplied_spelling, holds_spelling, brick_spelling}
+use Rattle.rt_object.specs.Spelling.{counted_spelling, fields_spelling, block_spelling, relocations_spelling, call_spelling, code_spelling, proc_spelling, data_spelling, kind_spelling, content_spelling, external_spelling, supplied_spelling, holds_spelling, brick_spelling}
 use Rattle.rt_object.specs.declared.object.Brick.{Brick}
 use Rattle.rt_object.specs.declared.object.BrickKind.{BrickKind}
 use Rattle.rt_object.specs.declared.object.BrickKind.TheVariants.{Own, Ent, Ext, Svc}
@@ -33,15 +33,12 @@ use Rattle.rt_object.specs.declared.tag.Sort.{Sort}
 use Rattle.rt_object.specs.declared.tag.Sort.TheVariants as sorts
 use Rattle.rt_object.proofs.Differing.{Fresh}
 use Rattle.rt_object.proofs.SpeltParts.{spelt_new, spelt_fields, spelt_plain_fields, spelt_proc_mode, spelt_sized, spelt_code_relocations, spelt_data_relocations, spelt_calls, within_has_size, has_size_within, is_size_has, has_is_size, IsInRrerr, in_rrerr_is, in_rrerr_back}
-use Rattle.rt_object.proofs.Spelt.{Spelt, spelt_same, spelt_passing, spelt_any, spelt_within, spelt_test, spelt_code, spelt_nothing, spelt_then, spelt_made, spelt_words, spelt_marks}
+use Rattle.rt_object.proofs.Spelt.{few_spelled, Spelt, spelt_same, spelt_passing, spelt_any, spelt_within, spelt_test, spelt_code, spelt_nothing, spelt_then, spelt_made, spelt_words, spelt_marks}
 
 -- ---- the code
 
 abbrev IsCode : List ℕ × List ℕ → Type 0
 IsCode x = (length x.0 ≤ 16383) × (AllByRecursion IsWord x.0 × ((length x.1 ≡ length x.0) × AllByRecursion (λ m. m ≤ 2) x.1))
-
-few_spelled : (n : ℕ) → n < 2 ^ 16 → word_bytes n ≡ count_spelling n
-few_spelled n small = let e : n % 65536 ≡ n = omega arith in ap word_bytes (sym e)
 
 spelt_code_part : Spelt spec.code_format (λ x. code_spelling x.0 x.1) IsCode
 spelt_code_part =

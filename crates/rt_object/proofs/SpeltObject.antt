@@ -1,5 +1,5 @@
 -- What fits the format of an object is the spelling of an object in its ranges, and the other way round.
-use Rattle.std.proofs.Common.{◌≡◌, ℕ, ◌^◌, ◌<◌, ◌≤◌, Bool, true, false, not, ◌||◌, leb, List, [], ◌∷◌, ◌++◌, length, map, codes, Option, Some, None, zero, suc, refl, sym, ap, subst, arith}
+use Rattle.std.proofs.Common.{◌≡◌, ℕ, ◌^◌, ◌<◌, ◌≤◌, true, false, not, leb, List, [], ◌∷◌, ◌++◌, length, map, codes, Option, Some, None, zero, suc, refl, sym, ap, subst, arith}
 use Rattle.std.specs.List.{AllByRecursion, slice_get, list_any}
 use Rattle.rt_words.specs.Bytes.{word_bytes}
 use Rattle.rt_formats.specs.Format.{Format, nothing, word, tag, name, where_true, any, ◌>>=◌, each}
@@ -19,7 +19,7 @@ use Rattle.rt_object.specs.declared.object.External.TheVariants as external
 use Rattle.rt_object.specs.declared.object.ObjectParts.{ObjectParts}
 use Rattle.rt_object.specs.declared.object.Supplied.TheVariants as supplied
 use Rattle.rt_object.proofs.SpeltBricks.{spelt_brick}
-use Rattle.rt_object.proofs.Differing.{no_names, Fresh, fresh_all, all_fresh, no_numbers, Later, later_all, all_later}
+use Rattle.rt_object.proofs.Differing.{either_any, no_names, Fresh, fresh_all, all_fresh, no_numbers, Later, later_all, all_later}
 use Rattle.rt_object.proofs.SpeltParts.{spelt_record, spelt_string}
 use Rattle.rt_object.proofs.Spelt.{Spelt, spelt_name, spelt_same, spelt_test, spelt_then, spelt_made, spelt_counted, spelt_list, spelt_tag, both_true}
 
@@ -115,10 +115,6 @@ proc_at_is bricks k (Some b) is e = (b, is, proc_kind_is b.kind e)
 
 proc_at_back : (bricks : List Brick) (k : ℕ) → IsProcNumber bricks k → is_proc_at (slice_get bricks k) ≡ true
 proc_at_back bricks k (b, is, kind) = subst (λ o. is_proc_at o ≡ true) (sym is) (proc_kind_back b.kind kind)
-
-either_any : (a b : Bool) → not (a || b) ≡ true → (a ≡ false) × (not b ≡ true)
-either_any true b e = absurd cc
-either_any false b e = (refl, e)
 
 above_is : (before : List ℕ) (k : ℕ) → not (list_any (λ m. leb k m) before) ≡ true → (i m : ℕ) → slice_get before i ≡ Some m → m < k
 above_is [] k e i m g = absurd cc

@@ -1,5 +1,5 @@
 -- What fits the parts of an object is the spelling of a part in its ranges, and the other way round.
-use Rattle.std.proofs.Common.{◌≡◌, ℕ, zero, suc, ◌*◌, ◌/◌, ◌%◌, ◌^◌, ◌<◌, ◌≤◌, Bool, true, false, ◌&&◌, eqb, ltb, ◌⊎◌, inl, inr, List, [], ◌∷◌, ◌++◌, length, map, Option, Some, None, refl, sym, ap, subst, ◌∙◌, arith}
+use Rattle.std.proofs.Common.{◌≡◌, ℕ, zero, suc, ◌*◌, ◌/◌, ◌%◌, ◌^◌, ◌<◌, ◌≤◌, Bool, true, false, ◌&&◌, eqb, ltb, inl, inr, List, [], ◌∷◌, ◌++◌, length, map, Option, Some, None, refl, sym, ap, subst, ◌∙◌, arith}
 use Rattle.std.specs.List.{AllByRecursion, slice_get}
 use Rattle.std.proofs.lemmas.Bool.{eqb-true, leb-true, le-leb, ltb-true, lt-ltb}
 use Rattle.std.proofs.lemmas.Bool.Decides.{nat_tests}
@@ -18,7 +18,7 @@ use Rattle.rt_object.specs.Grammar.{is_no_label_layer, is_no_label, may_be, is_r
 use Rattle.rt_object.specs.Grammar as spec
 use Rattle.rt_object.specs.Ranges.{IsByte, IsWord, IsName, IsCounted, AreDifferent, Rise, IsLabel, IsProcLayer, IsProcMode, IsValueLayer, IsValueMode, IsNoLabel, field_names, HaveFieldRanges, HasRecordRanges, table_of, HaveSize, IsNamed, HaveRelocationRanges}
 use Rattle.rt_object.specs.Ranges as ranges
-use Rattle.rt_object.specs.Spelling.{count_spelling, counted_spelling, field_spelling, fields_spelling, record_spelling, block_spelling, relocated_spelling, relocation_spelling, relocations_spelling, target_spelling, call_spelling}
+use Rattle.rt_object.specs.Spelling.{counted_spelling, field_spelling, fields_spelling, record_spelling, block_spelling, relocated_spelling, relocation_spelling, relocations_spelling, target_spelling, call_spelling}
 use Rattle.rt_object.specs.declared.object.Call.{Call}
 use Rattle.rt_object.specs.declared.object.Relocated.{Relocated}
 use Rattle.rt_object.specs.declared.object.Relocated.TheVariants as relocated
@@ -31,17 +31,13 @@ use Rattle.rt_object.specs.declared.tag.Named.{Named}
 use Rattle.rt_object.specs.declared.tag.Named.TheVariants as namings
 use Rattle.rt_object.proofs.Depth.{end_is_size, size_is_end}
 use Rattle.rt_object.proofs.ModeBytes.{mode_bytes}
-use Rattle.rt_object.proofs.Differing.{no_names, Fresh, fresh_all, all_fresh, no_numbers, Later, later_all, all_later}
-use Rattle.rt_object.proofs.Spelt.{Spelt, spelt_name, spelt_block, spelt_same, spelt_passing, spelt_any, spelt_within, spelt_below, spelt_test, spelt_code, spelt_nothing, spelt_then, spelt_made, spelt_counted, spelt_list, both_true}
+use Rattle.rt_object.proofs.Differing.{either_way, no_names, Fresh, fresh_all, all_fresh, no_numbers, Later, later_all, all_later}
+use Rattle.rt_object.proofs.Spelt.{few_spelled, Spelt, spelt_name, spelt_block, spelt_same, spelt_passing, spelt_any, spelt_within, spelt_below, spelt_test, spelt_code, spelt_nothing, spelt_then, spelt_made, spelt_counted, spelt_list, both_true}
 
 -- ---- modes
 
 pub spelt_mode : (records : ℕ) → records ≤ 2 ^ 16 → Spelt (mode_format records) spelling (MayStand records)
 spelt_mode records small = record { spelled = record { there = fits_stands records; back = stands_fits records }; bytes = mode_bytes records small }
-
-either_way : (b : Bool) → (b ≡ true) ⊎ (b ≡ false)
-either_way true = inl refl
-either_way false = inr refl
 
 no_label_is : (m : Mode) → is_no_label m ≡ true → IsNoLabel m
 no_label_is m e label = let bad : false ≡ true = subst (λ l. is_no_label_layer l ≡ true) label e in cc
@@ -193,9 +189,6 @@ spelt_record records small before =
     (λ r h. refl) (λ r h. (h.0.1, record { name = h.0.0; fields = h.1.0 })) (λ r h. ((h.1.name, h.0), (h.1.fields, refl)))
 
 -- ---- bytes behind their number
-
-few_spelled : (n : ℕ) → n < 2 ^ 16 → word_bytes n ≡ count_spelling n
-few_spelled n small = let e : n % 65536 ≡ n = omega arith in ap word_bytes (sym e)
 
 -- a number of bytes, and so many
 pub spelt_sized : (P : Format ℕ) (K : ℕ → Type 0) → Spelt P word_bytes K → ((n : ℕ) → K n → n < 2 ^ 16) → Spelt (P >>= block) block_spelling (λ x. K (length x) × AreBytes x)
