@@ -1,9 +1,9 @@
 -- Laws of calls that run a machine.
-use Rattle.std.specs.Prelude.{◌≡◌, ℕ, List, Option, Some, drop}
+use Rattle.std.specs.Prelude.{◌≡◌, ℕ, ◌≤◌, List, Option, Some, drop}
 use Rattle.rt_image.specs.declared.image.ImageParts.{ImageParts}
 use Rattle.rt_run.specs.declared.machine.End.{End}
 use Rattle.rt_run.specs.Inputs.{Feed}
-use Rattle.rt_run.specs.Boundaries.{State}
+use Rattle.rt_run.specs.Boundaries.{State, Why, Over, boundary}
 use Rattle.rt_run.specs.Picture.{Standing, Shows}
 use Rattle.rt_run.specs.Runs.{IsAtBoundary, Reaches, Runs}
 
@@ -20,3 +20,7 @@ pub record RunsOverTold (image : ImageParts) (gaps all : List ℕ) (limit : ℕ)
 -- where the input tells its bytes, a call is the run over these
 abbrev pub ToldBytesAreRunOver : Type 0
 ToldBytesAreRunOver = (limit : ℕ) (end : End) (d d2 : Standing) (from to : Feed) (written written2 : Option (List ℕ)) → Runs limit end d from written d2 to written2 → (image : ImageParts) (gaps all : List ℕ) (s : State) → Shows image d s → IsAtBoundary image gaps all s → from.left ≡ Some (drop s.taken all) → RunsOverTold image gaps all limit s end d2 to written written2
+
+-- a run that is at its end is there with each greater limit
+abbrev pub EndsStay : Type 0
+EndsStay = (image : ImageParts) (gaps all : List ℕ) (limit limit2 : ℕ) (why : Why) (s : State) → boundary image gaps all limit ≡ Over why s → limit ≤ limit2 → boundary image gaps all limit2 ≡ Over why s

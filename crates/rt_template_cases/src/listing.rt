@@ -112,9 +112,9 @@ pub fn tell_proc(alloc: Global, text: &str, out: &mut Text) -> Result<(), Memory
     }
     match expand(alloc, &IModule { procs }) {
         Ok(code) => tell_codes(code.procs.as_slice(), out),
-        Err(ExpandFault::ProcTooLong { name }) => {
+        Err(ExpandFault::ProcTooLong { proc }) => {
             out.push_all(b"too long: ")?;
-            out.push_all(name.as_slice())
+            out.push_all(proc.as_slice())
         }
         Err(ExpandFault::Memory) => Err(Memory),
     }

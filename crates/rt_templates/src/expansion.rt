@@ -43,7 +43,7 @@ fn too_long(alloc: Global, name: &Name) -> ExpandFault
     ensures { IsNamed name.now result }
 {
     match name.copy(alloc) {
-        Ok(name) => ExpandFault::ProcTooLong { name },
+        Ok(proc) => ExpandFault::ProcTooLong { proc },
         Err(Memory) => ExpandFault::Memory,
     }
 }

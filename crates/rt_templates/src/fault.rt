@@ -9,7 +9,7 @@ use thiserror::Error;
 pub enum ExpandFault {
     /// The code of this procedure, the first such, has more than 16,383 words.
     #[error("the code of a procedure is too long")]
-    ProcTooLong { name: Name },
+    ProcTooLong { proc: Name },
     #[error("no memory")]
     Memory,
 }

@@ -4,13 +4,16 @@ use Rattle.rt_icode.specs.declared.ins.Ins.{Ins}
 use Rattle.rt_icode.specs.declared.procedure.IProc.{IProc}
 use Rattle.rt_icode.specs.Weights.{words_of}
 use Rattle.rt_icode.specs.Within.{IsWithin}
-use Rattle.rt_icode.proofs.Weights.{weigh_cons}
+use Rattle.rt_icode.proofs.Weights.{weighs_some, weigh_cons}
 use Rattle.rt_templates.specs.declared.layout.Layout.{Layout}
 use Rattle.rt_templates.specs.Lines.{words}
 use Rattle.rt_templates.specs.Layouts.{layout_of}
 use Rattle.rt_templates.specs.Templates.{template, templates}
 use Rattle.rt_templates.specs.Expanded.{most, code_of, size_of}
 use Rattle.rt_templates.proofs.Lengths.{long, weighs}
+
+pub has_some : (f : Layout) (k : ℕ) (i : Ins) → 1 ≤ length (words (template f k i))
+has_some f k i = omega (arith, weighs f k i, weighs_some i)
 
 pub all_weigh : (f : Layout) (k : ℕ) (is : List Ins) → length (words (templates f k is)) ≡ sum (map words_of is)
 all_weigh f k [] = refl

@@ -24,6 +24,9 @@ use Rattle.rt_templates.specs.Supported.{IsSupport}
 abbrev pub TemplatesWeigh : Type 0
 TemplatesWeigh = (f : Layout) (k : ℕ) (i : Ins) → length (words (template f k i)) ≡ words_of i
 
+abbrev pub NoneIsEmpty : Type 0
+NoneIsEmpty = (f : Layout) (k : ℕ) (i : Ins) → 1 ≤ length (words (template f k i))
+
 abbrev pub CodeWeighs : Type 0
 CodeWeighs = (code : List Ins) → length (code_of code).words ≡ size_of code
 

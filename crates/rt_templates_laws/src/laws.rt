@@ -1,10 +1,11 @@
 //! The laws.
 ghost use Rattle.rt_templates_laws.specs.Laws as laws;
 
-/// A template has as many words as its instruction weighs. So the code of a procedure that is within its items has at most 12 words
+/// A template has as many words as its instruction weighs, and has some. So the code of a procedure that is within its items has at most 12 words
 /// an item and 16, and with up to 1,363 items it is never too long.
 pub fn code_is_within()
     ensures weigh { laws.TemplatesWeigh }
+    ensures some { laws.NoneIsEmpty }
     ensures code { laws.CodeWeighs }
     ensures within { laws.CodeIsWithin }
     ensures never { laws.NeverTooLong }
