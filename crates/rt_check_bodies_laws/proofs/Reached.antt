@@ -13,7 +13,7 @@ use Rattle.rt_tree_nodes.specs.declared.value.Value.{Value}
 use Rattle.rt_tree_nodes.specs.declared.value.Value.TheVariants as values
 use Rattle.rt_tree_nodes.specs.Scopes.{Scope, layer_same, field_mode}
 use Rattle.rt_tree_nodes.specs.Tree.{Term, Path, Terms, Apply, ApplyBy, FieldOf, Elem, ElemRow, Past}
-use Rattle.rt_tree_nodes.specs.Typing.{Variable, Shared, Private, Row, OnPath, OnRow, kept, placed, valued, called as called_in, is_value, is_byte, field_by, field_found, field_in, field_path, element_by, element_found, element_in, element_path, terms_of}
+use Rattle.rt_tree_nodes.specs.Typing.{Variable, Shared, Private, Row, OnPath, OnRow, kept, placed, valued, called as called_in, mode_or_int, is_value, is_byte, field_by, field_found, field_in, field_path, element_by, element_found, element_in, element_path, terms_of}
 use Rattle.rt_tree_nodes.proofs.Same.{same_itself}
 use Rattle.rt_exprs.specs.declared.operand.Standing.{Standing}
 use Rattle.rt_exprs.specs.declared.operand.Standing.TheVariants as standing
@@ -153,7 +153,7 @@ module _ (c : Scope) where
 
   pub data CalledWithin (f : Callee) (k : ℕ) : Type 0 where
     by_brick : (b : ℕ) → ((vs : Terms) → (called_in c f).tree vs ≡ Apply b vs) → 1 ≤ k → CalledWithin f k
-    by_value : (v : Value) → ((vs : Terms) → (called_in c f).tree vs ≡ ApplyBy (tree_of c v) vs) → Leading v k → CalledWithin f k
+    by_value : (w : Mode) (v : Value) → ((vs : Terms) → (called_in c f).tree vs ≡ ApplyBy w (tree_of c v) vs) → Leading v k → CalledWithin f k
 
   abbrev pub AnswerFew : Option Mode → Type 0
   AnswerFew None = Unit {0}
@@ -183,12 +183,12 @@ module _ (c : Scope) where
   place_reaches p m (Mode-F.Array d n) k st t h s o = (array_rows p m d n k st t h o, array_few m d n o s)
   place_reaches p m (Mode-F.RefArray n) k st t h s o = (led_rows (values.Read p) m n k (read_has c p m st t (ap is_value o)) o (read_leads p m (Mode-F.RefArray n) k o refl h), row_few m n o s)
   place_reaches p m (Mode-F.Proc ps r) k st t h s o =
-      proc_within (callees.Through (values.Read p)) m (Mode-F.Proc ps r) k o s (by_value (values.Read p) (tree_by c (values.Read p)) (read_leads p m (Mode-F.Proc ps r) k o refl h))
+      proc_within (callees.Through (values.Read p)) m (Mode-F.Proc ps r) k o s (by_value (mode_or_int (valued c (values.Read p)).mode) (values.Read p) (tree_by c (values.Read p)) (read_leads p m (Mode-F.Proc ps r) k o refl h))
   place_reaches p m _ k st t h s o = tt
 
   result_reaches : (v : Value) (m : Mode) (l : Mode-F Mode) (k : ℕ) → Has c m v → CallWithin k (tree_of c v) → FewRefs m → out-Mode m ≡ l → ReachWithin k (result_reach l v)
   result_reaches v m (Mode-F.RefArray n) k t h s o = (led_rows v m n k t o (call_leads v k h), row_few m n o s)
-  result_reaches v m (Mode-F.Proc ps r) k t h s o = proc_within (callees.Through v) m (Mode-F.Proc ps r) k o s (by_value v (tree_by c v) (call_leads v k h))
+  result_reaches v m (Mode-F.Proc ps r) k t h s o = proc_within (callees.Through v) m (Mode-F.Proc ps r) k o s (by_value (mode_or_int (valued c v).mode) v (tree_by c v) (call_leads v k h))
   result_reaches v m _ k t h s o = tt
 
   pub reach_within : (is : Is) (k : ℕ) → IsTyped c is → Within c k is → ReachWithin k (reach is)
@@ -219,7 +219,7 @@ module _ (c : Scope) where
     apply_weighs : (t : Term) → CalledWithin f k → t ≡ (called_in c f).tree (terms_of (map (valued c) xs)) → CallWithin (k + (2 + n)) t
     apply_weighs t (by_brick b e l) is =
         rw (is, e) (record { weight = omega (arith, g.weight, l); depth = omega (arith, g.depth 0) })
-    apply_weighs t (by_value v e h) is =
+    apply_weighs t (by_value w v e h) is =
         rw (is, e) (record { weight = omega (arith, g.weight, h.weight); depth = omega (arith, g.depth 1, h.depth) })
 
     by_answer : (r : Option Mode) → AnswerFew r → Within c (k + (2 + n)) (called f r xs)

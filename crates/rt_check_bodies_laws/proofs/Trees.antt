@@ -15,7 +15,7 @@ use Rattle.rt_tree_nodes.specs.declared.value.Value as value_lemmas
 use Rattle.rt_tree_nodes.specs.declared.value.Value.TheVariants as values
 use Rattle.rt_tree_nodes.specs.Scopes.{Scope}
 use Rattle.rt_tree_nodes.specs.Tree.{Terms, Num, Str, Name, One, Apply, ApplyBy, ItemAt, Svc}
-use Rattle.rt_tree_nodes.specs.Typing.{Called, Placed, Valued, OnLocal, OnPath, one_callee, one_place, one_value, called, placed, valued, field_tree, element_in, led_tree, read_tree, reference_tree, length_tree, dyadic_tree, terms_of}
+use Rattle.rt_tree_nodes.specs.Typing.{Called, Placed, Valued, OnLocal, OnPath, one_callee, one_place, one_value, called, placed, valued, field_tree, element_in, led_tree, read_tree, reference_tree, length_tree, dyadic_tree, terms_of, mode_or_int}
 
 module _ (c : Scope) where
   callee_at : (f : Callee) (l : Callee-F Callee Place Value) → out-Callee f ≡ l → called c f ≡ one_callee c (map-Callee Callee Place Value Called Placed Valued (called c) (placed c) (valued c) l)
@@ -83,7 +83,7 @@ module _ (c : Scope) where
   pub tree_brick : (b : ℕ) (vs : Terms) → (called c (callees.Brick b)).tree vs ≡ Apply b vs
   tree_brick b vs = let o : out-Callee (callees.Brick b) ≡ Callee-F.Brick b = search callee_lemmas.the_lemmas in ap (λ x. x.tree vs) (callee_at (callees.Brick b) (Callee-F.Brick b) o)
 
-  pub tree_by : (v : Value) (vs : Terms) → (called c (callees.Through v)).tree vs ≡ ApplyBy (valued c v).tree vs
+  pub tree_by : (v : Value) (vs : Terms) → (called c (callees.Through v)).tree vs ≡ ApplyBy (mode_or_int (valued c v).mode) (valued c v).tree vs
   tree_by v vs =
       let o : out-Callee (callees.Through v) ≡ Callee-F.«Callee::Through» v = search callee_lemmas.the_lemmas in
       ap (λ x. x.tree vs) (callee_at (callees.Through v) (Callee-F.«Callee::Through» v) o)

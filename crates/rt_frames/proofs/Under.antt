@@ -131,7 +131,7 @@ depth_some (One o v) = depth_some v
 depth_some (Two o a b) = grind arith
 depth_some (Over o a b) = grind arith
 depth_some (Apply b vs) = grind arith
-depth_some (ApplyBy f vs) = grind arith
+depth_some (ApplyBy m f vs) = grind arith
 
 dyadic_depth : (o : Op2) (a b : Term) → depth (dyadic_tree o a b) ≡ above (depth a) (depth b)
 dyadic_depth two.Divide a b = refl

@@ -15,7 +15,7 @@ use crate::frame::{CallPoint, Target};
 use crate::measure::{Address, Measured, Reached, above, behind, greater, plus};
 use rt_modes::Mode;
 use rt_tree::{
-    Callee, Found, Lent, Op1, Op2, Place, Scope, Signature, Value, ValueMode, copy_mode,
+    Callee, Found, Op1, Op2, Place, Scope, Signature, Value, ValueMode, copy_value_mode,
     dyadic_mode, monadic_mode,
 };
 use rt_words::{Boxed, List, Memory};
@@ -366,33 +366,8 @@ fn variable_target(alloc: Global, mode: Option<ValueMode<'_>>) -> Result<Option<
     ensures { IfOk result (λ t. t ≡ option_map (λ m. target.Variable m) (seen.mode_found mode.entry)) }
 {
     match mode {
-        Some(mode) => Ok(Some(Target::Variable(whole_mode(alloc, mode)?))),
+        Some(mode) => Ok(Some(Target::Variable(copy_value_mode(alloc, &mode)?))),
         None => Ok(None),
-    }
-}
-
-/// The mode that is lent.
-fn whole_mode(alloc: Global, mode: ValueMode<'_>) -> Result<Mode, Memory>
-    ensures { IfOk result (λ m. m ≡ seen.value_mode mode.entry) }
-{
-    match mode {
-        ValueMode::Of(mode) => own_mode(alloc, mode),
-        ValueMode::Reference(target) => Ok(Mode::Ref(Boxed::new(alloc, own_mode(alloc, target)?)?)),
-        ValueMode::Row(element) => Ok(Mode::RefArray(Boxed::new(
-            alloc,
-            own_mode(alloc, element)?,
-        )?)),
-    }
-}
-
-fn own_mode(alloc: Global, mode: Lent<'_>) -> Result<Mode, Memory>
-    ensures { IfOk result (λ m. m ≡ seen.lent mode.entry) }
-{
-    match mode {
-        Lent::Of(mode) => copy_mode(alloc, mode),
-        Lent::Byte => Ok(Mode::Byte),
-        Lent::Int => Ok(Mode::Int),
-        Lent::Frac => Ok(Mode::Frac),
     }
 }
 

@@ -1,7 +1,7 @@
 -- In every state of a run each task ends as its row says, and its outermost activation is its root's.
 use Rattle.std.proofs.Common.{◌≡◌, ◌≢◌, ◌⊎◌, inl, inr, ℕ, zero, suc, ◌-◌, ◌+◌, false, List, [], ◌∷◌, Option, Some, None, slice_get, slice_set, refl, sym, ap, ◌∙◌, subst}
 use Rattle.rt_tree_nodes.specs.declared.store.Datum.{Datum}
-use Rattle.rt_tree_nodes.specs.declared.store.Datum.TheVariants.{Word, Reference, Row, Procedure, Truth}
+use Rattle.rt_tree_nodes.specs.declared.store.Datum.TheVariants.{Word, Reference, Row, Procedure, Label, Truth}
 use Rattle.rt_tree_nodes.specs.declared.store.Proc.{Proc}
 use Rattle.rt_rules.specs.declared.service.Outcome.{Outcome}
 use Rattle.rt_rules.specs.declared.service.Outcome.TheVariants.{Go, Waits, Error, Ends}
@@ -95,6 +95,7 @@ serves_end f (Word n ∷ vs) ne = ends
 serves_end f (Reference l ∷ vs) ne = absurd (ne refl)
 serves_end f (Row l n ∷ vs) ne = absurd (ne refl)
 serves_end f (Procedure g ∷ vs) ne = absurd (ne refl)
+serves_end f (Label a n ∷ vs) ne = absurd (ne refl)
 serves_end f (Truth b ∷ vs) ne = absurd (ne refl)
 
 first_steps : (e : Env) (f : Proc) (a : Act) → IsFirst f a → next e a.todo a.values a.locals ≢ Lacks → FirstSteps f (next e a.todo a.values a.locals)

@@ -4,7 +4,7 @@ use Rattle.rt_modes.specs.declared.mode.Mode.{Mode, out-Mode}
 use Rattle.rt_modes.specs.declared.mode.Mode.TheOpen.{Mode-F}
 use Rattle.rt_modes.specs.FullMode.{FullMode}
 use Rattle.rt_tree_nodes.specs.declared.store.Datum.{Datum}
-use Rattle.rt_tree_nodes.specs.declared.store.Datum.TheVariants.{Word, Reference, Row, Procedure, Truth}
+use Rattle.rt_tree_nodes.specs.declared.store.Datum.TheVariants.{Word, Reference, Row, Procedure, Label, Truth}
 use Rattle.rt_tree_nodes.specs.declared.store.Location.{Location}
 use Rattle.rt_tree_nodes.specs.declared.store.Proc.{Proc}
 use Rattle.rt_tree.specs.Stored.{System, IsCandidate}
@@ -48,6 +48,7 @@ module _ (ps : System) (x : Site) (env : Env) where
   own_found m ss (Word n ∷ us) go f h = absurd f.0.1
   own_found m ss (Row l n ∷ us) go f h = absurd f.0.1
   own_found m ss (Procedure g ∷ us) go f h = absurd f.0.1
+  own_found m ss (Label a n ∷ us) go f h = absurd f.0.1
   own_found m ss (Truth b ∷ us) go f h = absurd f.0.1
 
   pub row_found : (m k : Mode) (ss : List Slot) (vs : List Datum) (go : Location × ℕ → List Datum → Next) → out-Mode k ≡ Mode-F.RefArray m → Fill (AValue k ∷ ss) vs
@@ -73,3 +74,4 @@ module _ (ps : System) (x : Site) (env : Env) where
   truth_found ss (Reference l ∷ us) go f h = absurd f.0
   truth_found ss (Row l n ∷ us) go f h = absurd f.0
   truth_found ss (Procedure g ∷ us) go f h = absurd f.0
+  truth_found ss (Label a n ∷ us) go f h = absurd f.0

@@ -9,7 +9,7 @@ use Rattle.rt_tree_nodes.specs.declared.store.Datum.{Datum}
 use Rattle.rt_tree_nodes.specs.declared.store.Location.{Location}
 use Rattle.rt_tree_nodes.specs.declared.store.Proc.{Proc}
 use Rattle.rt_modes.specs.FullMode.{FullMode}
-use Rattle.rt_tree_nodes.specs.declared.store.Datum.TheVariants.{Word, Reference, Row, Procedure, Truth}
+use Rattle.rt_tree_nodes.specs.declared.store.Datum.TheVariants.{Word, Reference, Row, Procedure, Label, Truth}
 use Rattle.rt_tree_nodes.proofs.Same.{out_same}
 use Rattle.rt_tree.specs.declared.standing.Standing.TheVariants as standing
 use Rattle.rt_tree.specs.Modules.{Stands, layer_stands, stands}
@@ -148,4 +148,5 @@ backed_stands ps t k (Reference l) free h = absurd (free h.1.0 h.1.1)
 backed_stands ps t k (Word n) free h = h.1
 backed_stands ps t k (Row l n) free h = h.1
 backed_stands ps t k (Procedure f) free h = h.1
+backed_stands ps t k (Label a n) free h = h.1
 backed_stands ps t k (Truth b) free h = h.1

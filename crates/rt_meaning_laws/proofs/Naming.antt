@@ -32,7 +32,7 @@ module _ (N : ℕ → Type 0) where
     term_named s (Two o a b) r h = (term_named s a r.0 (first (in_term a) (in_term b) h), term_named s b r.1 (rest (in_term a) (in_term b) h))
     term_named s (Over o a b) r h = (term_named s a r.0 (first (in_term a) (in_term b) h), term_named s b r.1 (rest (in_term a) (in_term b) h))
     term_named s (Apply b vs) r h = terms_named s vs r h
-    term_named s (ApplyBy f vs) r h = (term_named s f r.0 (first (in_term f) (in_terms vs) h), terms_named s vs r.1 (rest (in_term f) (in_terms vs) h))
+    term_named s (ApplyBy m f vs) r h = (term_named s f r.0 (first (in_term f) (in_terms vs) h), terms_named s vs r.1 (rest (in_term f) (in_terms vs) h))
 
     path_named : (s : Started) (p : Path) → PathNamed any_name s p → All (in_path p) → PathNamed N s p
     path_named s (ItemAt b i) r h = tt

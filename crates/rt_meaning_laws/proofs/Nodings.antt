@@ -15,7 +15,7 @@ use Rattle.rt_tree_nodes.specs.declared.value.Value.{Value, out-Value, roll-Valu
 use Rattle.rt_tree_nodes.specs.declared.value.Value as values
 use Rattle.rt_tree_nodes.specs.Scopes.{Scope, Face, is_svc, items_of, faces, field_at, svc_mode, scope_of, with_locals}
 use Rattle.rt_tree_nodes.specs.Tree.{Num, ItemAt, Svc}
-use Rattle.rt_tree_nodes.specs.Typing.{Signature, Found, Variable, Loop, Shared, Private, Row, OnPath, Placed, Valued, Called, kept, item_found, suits, all_suit, terms_of, signature_by, call_mode, one_callee, one_place, one_value, called, placed, valued, monadic_mode, dyadic_mode}
+use Rattle.rt_tree_nodes.specs.Typing.{Signature, Found, Variable, Loop, Shared, Private, Row, OnPath, Placed, Valued, Called, kept, item_found, suits, all_suit, terms_of, signature_by, call_mode, one_callee, one_place, one_value, called, placed, valued, mode_or_int, monadic_mode, dyadic_mode}
 use Rattle.rt_tree.specs.Taken.{taken}
 use Rattle.rt_meaning_laws.specs.Trees.{Started, Site, number_fits, TermsFit}
 use Rattle.rt_meaning_laws.specs.Named.{TermsNamed}
@@ -110,8 +110,8 @@ module _ (x : Site) (s : Started) (private_none : (b j : ℕ) (m : Mode) → ite
     gives = λ w ws m ts e q f r. (w, ws, e, q, f r);
   }
   callee_level (Callee-F.«Callee::Through» v) = record {
-    calls = λ w ws o ts e q f r. (w, ws, q, v.1.is w e r.0, f r.1);
-    gives = λ w ws m ts e q f r. (w, ws, q, v.1.is w e r.0, f r.1);
+    calls = λ w ws o ts e q f r. (w, ws, q, v.1.is w e r.0, f r.1, ap mode_or_int e);
+    gives = λ w ws m ts e q f r. (w, ws, q, v.1.is w e r.0, f r.1, ap mode_or_int e);
   }
 
   abbrev their_values : List ValuePair → List Valued

@@ -192,7 +192,7 @@ module _ (ps : System) (x : Site) (e : Env) (so : Sound ps) (g : Grounds ps x e)
         let c = count_terms x b xs h.1 h.4 in
         terms_fit xs h.1 b (Enter i (how_many xs) ∷ rest) ss (enter_then (e.leads i) (how_many xs) rest) h.4 (h.0, h.1, Some m, ss, h.2, h.3, c, refl, r)
         (enter_goes b rest ss i (how_many xs) h.0 h.1 (Some m) h.2 h.3 c r) vs ls f l
-    term_fits (ApplyBy y xs) m b rest ss go h r k vs ls f l =
+    term_fits (ApplyBy u y xs) m b rest ss go h r k vs ls f l =
         let c = count_terms x b xs h.1 h.4 in
         term_fits y h.0 b (Args xs ∷ EnterBy (how_many xs) ∷ rest) ss (λ us ks. first_all e xs (EnterBy (how_many xs) ∷ rest) (enter_by_then (how_many xs) rest) us ks) h.3
         (h.1, h.4, (h.0, h.1, Some m, ss, h.2, c, refl, r))
@@ -226,7 +226,7 @@ module _ (ps : System) (x : Site) (e : Env) (so : Sound ps) (g : Grounds ps x e)
       let c = count_terms x b xs h.1 h.4 in
       terms_fit xs h.1 b (Enter i (how_many xs) ∷ rest) ss (enter_then (e.leads i) (how_many xs) rest) h.4 (h.0, h.1, o, ss, h.2, h.3, c, refl, r)
       (enter_goes b rest ss i (how_many xs) h.0 h.1 o h.2 h.3 c r) vs ls f l
-  call_fits (ApplyBy y xs) o b rest ss go h r vs ls f l =
+  call_fits (ApplyBy u y xs) o b rest ss go h r vs ls f l =
       let c = count_terms x b xs h.1 h.4 in
       term_fits y h.0 b (Args xs ∷ EnterBy (how_many xs) ∷ rest) ss (λ us ks. first_all e xs (EnterBy (how_many xs) ∷ rest) (enter_by_then (how_many xs) rest) us ks) h.3
       (h.1, h.4, (h.0, h.1, o, ss, h.2, c, refl, r))

@@ -27,7 +27,7 @@ module _ (names : Names) where
     TermNamed s (Two o a b) = TermNamed s a × TermNamed s b
     TermNamed s (Over o a b) = TermNamed s a × TermNamed s b
     TermNamed s (Apply b vs) = TermsNamed s vs
-    TermNamed s (ApplyBy f vs) = TermNamed s f × TermsNamed s vs
+    TermNamed s (ApplyBy m f vs) = TermNamed s f × TermsNamed s vs
 
     pub PathNamed : Started → Path → Type 0
     PathNamed s (ItemAt b i) = Unit {0}

@@ -113,7 +113,7 @@ module _ (x : Site) where
     TermFits s (Two o a b) m = (j k : Mode) × (dyadic_mode o j k ≡ Some m) × TermFits s a j × TermFits s b k × (is_division o ≡ false)
     TermFits s (Over o a b) m = (j k : Mode) × (dyadic_mode o j k ≡ Some m) × TermFits s a j × TermFits s b k × (is_division o ≡ true)
     TermFits s (Apply b vs) m = (w : Mode) × (ws : List Mode) × (proc_mode (faces x.parts.bricks) b ≡ Some w) × (out-Mode w ≡ Mode-F.Proc ws (Some m)) × TermsFit s vs ws
-    TermFits s (ApplyBy f vs) m = (w : Mode) × (ws : List Mode) × (out-Mode w ≡ Mode-F.Proc ws (Some m)) × TermFits s f w × TermsFit s vs ws
+    TermFits s (ApplyBy u f vs) m = (w : Mode) × (ws : List Mode) × (out-Mode w ≡ Mode-F.Proc ws (Some m)) × TermFits s f w × TermsFit s vs ws × (u ≡ w)
 
     -- the path leads to a place of the mode, which all tasks share
     pub PathFits : Started → Path → Mode → Type 0
@@ -132,7 +132,7 @@ module _ (x : Site) where
   -- the call gives this, if anything
   abbrev pub CallFits : Started → Term → Option Mode → Type 0
   CallFits s (Apply b vs) o = (w : Mode) × (ws : List Mode) × (proc_mode (faces x.parts.bricks) b ≡ Some w) × (out-Mode w ≡ Mode-F.Proc ws o) × TermsFit s vs ws
-  CallFits s (ApplyBy f vs) o = (w : Mode) × (ws : List Mode) × (out-Mode w ≡ Mode-F.Proc ws o) × TermFits s f w × TermsFit s vs ws
+  CallFits s (ApplyBy u f vs) o = (w : Mode) × (ws : List Mode) × (out-Mode w ≡ Mode-F.Proc ws o) × TermFits s f w × TermsFit s vs ws × (u ≡ w)
   CallFits s _ o = ⊥
 
   -- ---- conditions

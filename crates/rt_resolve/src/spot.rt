@@ -11,7 +11,7 @@ ghost use Rattle.rt_resolve.specs.Trees as trees;
 
 use crate::share::shared;
 use rt_modes::Mode;
-use rt_tree::{Found, Lent, ValueMode, copy_mode};
+use rt_tree::{Found, Lent, ValueMode, copy_lent, copy_mode};
 use rt_words::Memory;
 use rt_work::{PathNode, StmtNode, TermNode};
 use std::alloc::Global;
@@ -35,17 +35,6 @@ fn mode_at<'a>(found: &Option<Found<'a>>) -> Lent<'a>
             Found::Private(mode) => Lent::Of(mode),
             _ => Lent::Int,
         },
-    }
-}
-
-fn copy_lent(alloc: Global, mode: &Lent<'_>) -> Result<Mode, Memory>
-    ensures { IfOk result (λ m. m ≡ seen.lent mode.now) }
-{
-    match mode {
-        Lent::Of(mode) => copy_mode(alloc, mode),
-        Lent::Byte => Ok(Mode::Byte),
-        Lent::Int => Ok(Mode::Int),
-        Lent::Frac => Ok(Mode::Frac),
     }
 }
 

@@ -2,6 +2,7 @@
 
 ghost use Rattle.std.specs.Prelude.{◌≡◌, IfOk, map};
 ghost use Rattle.rt_tree_nodes.specs.Code as seen;
+ghost use Rattle.rt_tree_nodes.specs.Tree as tree;
 ghost use Rattle.rt_tree_nodes.specs.Typing as typing;
 ghost use Rattle.rt_work.specs.Nodes as n;
 ghost use Rattle.rt_resolve.specs.Trees as trees;
@@ -9,10 +10,14 @@ ghost use Rattle.rt_resolve.specs.Trees as trees;
 use crate::join::joined_terms;
 use crate::share::shared;
 use crate::spot::{Spot, element, field, led, length, read, reference};
-use rt_tree::{Callee, Op2, Place, Scope, Value, found_at, mode_of};
+use rt_modes::Mode;
+use rt_tree::{
+    Callee, Op2, Place, Scope, Value, ValueMode, copy_value_mode, found_at, mode_of,
+};
 use rt_words::{List, Memory};
 use rt_work::{PathNode, TermNode, TermsNode};
 use std::alloc::Global;
+use std::rc::Rc;
 
 /// The plain tree of a place.
 #[cycle(values)]
@@ -111,10 +116,32 @@ fn call(
         Callee::Brick(b) => Ok(TermNode::Apply(*b, shared(alloc, arguments)?)),
         Callee::Through(value) => {
             let procedure = term(alloc, scope, value.get())?;
-            let procedure = shared(alloc, procedure)?;
-            Ok(TermNode::ApplyBy(procedure, shared(alloc, arguments)?))
+            let arguments = shared(alloc, arguments)?;
+            call_by(
+                alloc,
+                &mode_of(scope, value.get()),
+                procedure,
+                arguments,
+            )
         }
     }
+}
+
+/// The plain tree of the call of a value.
+fn call_by(
+    alloc: Global,
+    mode: &Option<ValueMode<'_>>,
+    procedure: TermNode,
+    arguments: Rc<TermsNode>,
+) -> Result<TermNode, Memory>
+    ensures { IfOk result (λ t. n.term t ≡ tree.ApplyBy (typing.mode_or_int (seen.mode_found mode.now)) (n.term procedure) (n.terms arguments.value)) }
+{
+    let procedure = shared(alloc, procedure)?;
+    let mode = match mode {
+        Some(mode) => copy_value_mode(alloc, mode)?,
+        None => Mode::Int,
+    };
+    Ok(TermNode::ApplyBy(mode, procedure, arguments))
 }
 
 fn dyadic(alloc: Global, operator: Op2, left: TermNode, right: TermNode) -> Result<TermNode, Memory>

@@ -27,7 +27,7 @@ abbrev mutual
   depth (Two o a b) = above (depth a) (depth b)
   depth (Over o a b) = above (depth a) (depth b)
   depth (Apply b vs) = max 1 (arguments_depth 0 vs)
-  depth (ApplyBy f vs) = max (max 1 (depth f)) (arguments_depth 1 vs)
+  depth (ApplyBy m f vs) = max (max 1 (depth f)) (arguments_depth 1 vs)
 
   -- what the address of a place takes; a brick's item takes nothing
   pub address_depth : Path → ℕ

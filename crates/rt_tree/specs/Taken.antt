@@ -25,7 +25,7 @@ abbrev mutual
   in_term (Two o a b) = in_term a ++ in_term b
   in_term (Over o a b) = in_term a ++ in_term b
   in_term (Apply b vs) = in_terms vs
-  in_term (ApplyBy f vs) = in_term f ++ in_terms vs
+  in_term (ApplyBy m f vs) = in_term f ++ in_terms vs
   in_term (Num n) = []
   in_term (Str n) = []
   in_term (Own i) = []

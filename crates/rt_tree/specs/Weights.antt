@@ -37,7 +37,7 @@ abbrev mutual
   term_weight (Two o a b) = 8 + (term_weight a + term_weight b)
   term_weight (Over o a b) = 8 + (term_weight a + term_weight b)
   term_weight (Apply b vs) = 12 + terms_weight vs
-  term_weight (ApplyBy f vs) = 8 + (term_weight f + terms_weight vs)
+  term_weight (ApplyBy m f vs) = 8 + (term_weight f + terms_weight vs)
 
   pub path_weight : Path → ℕ
   path_weight (ItemAt b i) = 3

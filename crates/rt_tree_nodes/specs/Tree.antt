@@ -22,7 +22,7 @@ mutual
     Two : (o : Op2) (a b : Term) → Term
     Over : (o : Op2) (a b : Term) → Term  -- `:/` and MOD
     Apply : (b : ℕ) (vs : Terms) → Term  -- the call of a brick
-    ApplyBy : (f : Term) (vs : Terms) → Term  -- the call of the procedure that a value is
+    ApplyBy : (m : Mode) (f : Term) (vs : Terms) → Term  -- the call of the procedure that a value of PROC mode m is
 
   -- what gives a shared place
   pub data Path : Type 0 where

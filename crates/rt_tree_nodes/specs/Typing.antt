@@ -313,6 +313,11 @@ call_mode f vs = with f (λ m. with (signature_by (out-Mode m)) (λ s. only (all
 abbrev pub value : Option Mode → Term → Valued
 value m t = record { mode = m; number = None; call = None; tree = t }
 
+-- the mode of what is called; where it has none, any
+abbrev pub mode_or_int : Option Mode → Mode
+mode_or_int (Some m) = m
+mode_or_int None = mode.Int
+
 module _ (c : Scope) where
   abbrev pub one_value : Value-F Called Placed Valued → Valued
   one_value (Value-F.Number n) = record { mode = Some mode.Int; number = Some n; call = None; tree = Num n }
@@ -327,7 +332,7 @@ module _ (c : Scope) where
 
   abbrev pub one_callee : Callee-F Called Placed Valued → Called
   one_callee (Callee-F.Brick b) = record { mode = proc_mode c.bricks b; tree = Apply b }
-  one_callee (Callee-F.«Callee::Through» v) = record { mode = v.mode; tree = ApplyBy v.tree }
+  one_callee (Callee-F.«Callee::Through» v) = record { mode = v.mode; tree = ApplyBy (mode_or_int v.mode) v.tree }
 
   -- ---- the places, values and callees of a tree
 

@@ -1,7 +1,9 @@
 //! Copies of modes.
 
 ghost use Rattle.std.specs.Prelude.{◌≡◌, IfOk};
+ghost use Rattle.rt_tree_nodes.specs.Code as seen;
 
+use crate::lent::{Lent, ValueMode};
 use rt_modes::Mode;
 use rt_words::{Boxed, List, Memory};
 use std::alloc::Global;
@@ -53,5 +55,34 @@ fn copy_answer(alloc: Global, answer: &Option<Boxed<Mode>>) -> Result<Option<Box
     match answer {
         Some(mode) => Ok(Some(copy_boxed(alloc, mode.get())?)),
         None => Ok(None),
+    }
+}
+
+/// The mode that is lent, as one of its own; the only other answer is want of memory.
+pub fn copy_lent(alloc: Global, mode: &Lent<'_>) -> Result<Mode, Memory>
+    ensures { IfOk result (λ m. m ≡ seen.lent mode.now) }
+{
+    match mode {
+        Lent::Of(mode) => copy_mode(alloc, mode),
+        Lent::Byte => Ok(Mode::Byte),
+        Lent::Int => Ok(Mode::Int),
+        Lent::Frac => Ok(Mode::Frac),
+    }
+}
+
+/// The mode of a value, as one of its own; the only other answer is want of memory.
+pub fn copy_value_mode(alloc: Global, mode: &ValueMode<'_>) -> Result<Mode, Memory>
+    ensures { IfOk result (λ m. m ≡ seen.value_mode mode.now) }
+{
+    match mode {
+        ValueMode::Of(mode) => copy_lent(alloc, mode),
+        ValueMode::Reference(target) => {
+            let target = copy_lent(alloc, target)?;
+            Ok(Mode::Ref(Boxed::new(alloc, target)?))
+        }
+        ValueMode::Row(element) => {
+            let element = copy_lent(alloc, element)?;
+            Ok(Mode::RefArray(Boxed::new(alloc, element)?))
+        }
     }
 }

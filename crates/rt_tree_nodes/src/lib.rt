@@ -19,7 +19,7 @@ mod typing;
 mod value;
 
 pub use brick::{Brick, BrickSort, DataStart, Kind, Local, ModuleParts, ProcBody};
-pub use copy::copy_mode;
+pub use copy::{copy_lent, copy_mode, copy_value_mode};
 pub use laws::same_modes_are_equal;
 pub use lent::{Found, Lent, Signature, ValueMode};
 pub use modes::same_mode;

@@ -37,6 +37,9 @@ pub enum Datum {
     Row(Location, u16),
     /// A PROC.
     Procedure(Proc),
+    /// A LABEL, of ERL once it has been set: an activation of the task, by its number from the outermost, which is 1, and a
+    /// label of its procedure.
+    Label(u16, u16),
     /// The answer of a test, which no location holds.
     Truth(bool),
 }

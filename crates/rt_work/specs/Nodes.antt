@@ -43,7 +43,7 @@ abbrev mutual
   term (t.Two' o r a u b) = Two o (term a) (term b)
   term (t.Over' o r a u b) = Over o (term a) (term b)
   term (t.Apply' k r a) = Apply k (terms a)
-  term (t.ApplyBy' r a u b) = ApplyBy (term a) (terms b)
+  term (t.ApplyBy' m r a u b) = ApplyBy m (term a) (terms b)
 
   pub path : PathNode → Path
   path (p.ItemAt b k) = ItemAt b k

@@ -367,7 +367,7 @@ module _ (e : Env) where
         first a (Eval b ∷ Split o ∷ rest) (λ us ks. first b (Split o ∷ rest) (split_then o rest go) us ks) vs ls
     first (Apply b xs) rest go vs ls =
         first_all xs (Enter b (how_many xs) ∷ rest) (enter_then (e.leads b) (how_many xs) rest) vs ls
-    first (ApplyBy f xs) rest go vs ls =
+    first (ApplyBy m f xs) rest go vs ls =
         first f (Args xs ∷ EnterBy (how_many xs) ∷ rest) (λ us ks. first_all xs (EnterBy (how_many xs) ∷ rest) (enter_by_then (how_many xs) rest) us ks) vs ls
 
     pub first_p : Path → List Item → Going → Going

@@ -15,7 +15,7 @@ abbrev mutual
   weight (Two o a b) = weight a + weight b + 2
   weight (Over o a b) = weight a + weight b + 2
   weight (Apply b xs) = weight_all xs + 2
-  weight (ApplyBy f xs) = weight f + weight_all xs + 2
+  weight (ApplyBy m f xs) = weight f + weight_all xs + 2
   weight _ = 1
 
   pub weight_p : Path → ℕ

@@ -25,6 +25,7 @@ pub fn copy_datum(alloc: Global, datum: &Datum) -> Result<Datum, Memory>
         Datum::Reference(location) => Ok(Datum::Reference(copy_location(alloc, location)?)),
         Datum::Row(location, length) => Ok(Datum::Row(copy_location(alloc, location)?, *length)),
         Datum::Procedure(procedure) => Ok(Datum::Procedure(*procedure)),
+        Datum::Label(activation, label) => Ok(Datum::Label(*activation, *label)),
         Datum::Truth(truth) => Ok(Datum::Truth(*truth)),
     }
 }

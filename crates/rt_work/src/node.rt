@@ -22,7 +22,7 @@ pub enum TermNode {
     Two(Op2, Rc<TermNode>, Rc<TermNode>),
     Over(Op2, Rc<TermNode>, Rc<TermNode>),
     Apply(u16, Rc<TermsNode>),
-    ApplyBy(Rc<TermNode>, Rc<TermsNode>),
+    ApplyBy(Mode, Rc<TermNode>, Rc<TermsNode>),
 }
 
 /// What gives a shared place.

@@ -356,7 +356,7 @@ pub fn term(alloc: Global, env: &Env, scene: &mut Scene, v: &TermNode) -> Done
         TermNode::Two(o, a, b) => then_both(scene, a, b, Item::Merge(*o)),
         TermNode::Over(o, a, b) => then_both(scene, a, b, Item::Split(*o)),
         TermNode::Apply(b, vs) => then_args(scene, vs, enter_item(*b, vs)?),
-        TermNode::ApplyBy(f, vs) => then_call(scene, f, vs, enter_by_item(vs)?),
+        TermNode::ApplyBy(_, f, vs) => then_call(scene, f, vs, enter_by_item(vs)?),
     }
 }
 
