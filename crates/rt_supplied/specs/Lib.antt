@@ -1,0 +1,2 @@
+pub mod Bricks
+pub mod Laws
