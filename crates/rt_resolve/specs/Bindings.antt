@@ -1,23 +1,23 @@
 -- To what each brick of each module of a system is bound: an own or ENT brick to itself, an EXT one to the ENT brick of its
 -- name, a supplied procedure to its number. Modules count from 1, and module 0 has the supplied procedures.
-use Rattle.std.specs.Prelude.{ℕ, suc, Bool, true, false, ◌&&◌, if◌then◌else◌, List, [], ◌∷◌, Option, Some, None}
+use Rattle.std.specs.Prelude.{ℕ, suc, nat_le, Bool, true, false, ◌&&◌, if◌then◌else◌, List, [], ◌∷◌, Option, Some, None}
 use Rattle.std.specs.Str.{bytes_eq}
 use Rattle.rt_tree_nodes.specs.declared.brick.Brick.{Brick}
 use Rattle.rt_tree_nodes.specs.declared.brick.Kind.{Kind}
 use Rattle.rt_tree_nodes.specs.declared.brick.Kind.TheVariants as kind
 use Rattle.rt_tree_nodes.specs.declared.brick.ModuleParts.{ModuleParts}
 use Rattle.rt_tree_nodes.specs.declared.store.Proc.{Proc}
-use Rattle.rt_tree.specs.Stored.{supplied_names}
+use Rattle.rt_supplied.specs.Bricks.{number_of, supplied_by}
+use Rattle.rt_supplied.specs.declared.supplied.Supplied.{Supplied}
 use Rattle.rt_work.specs.Stores.{supplied}
 
--- the number of a name among names that count from n; 0 where it isn't there
-abbrev pub number_from : ℕ → List (List ℕ) → List ℕ → ℕ
-number_from n [] name = 0
-number_from n (s ∷ ss) name = if bytes_eq name s then n else number_from (suc n) ss name
+-- the number of a supplied procedure; 0 of what isn't one
+abbrev pub procedure_number : Option Supplied → ℕ
+procedure_number None = 0
+procedure_number (Some s) = if nat_le (number_of s) 10 then number_of s else 0
 
--- the number of a supplied procedure; 0 where the name isn't one
 abbrev pub supplied_number : List ℕ → ℕ
-supplied_number name = number_from 1 supplied_names name
+supplied_number name = procedure_number (supplied_by name)
 
 abbrev pub is_ent : Kind → Bool
 is_ent kind.Ent = true

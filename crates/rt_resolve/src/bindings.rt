@@ -5,6 +5,7 @@ ghost use Rattle.rt_work.specs.Stores as stores;
 ghost use Rattle.rt_resolve.specs.Bindings as bindings;
 ghost use Rattle.rt_resolve.specs.Systems.{IsNumbered};
 
+use rt_supplied::Supplied;
 use rt_tree::{Brick, Kind, Proc, TypedModule};
 use rt_words::{List, Memory};
 use std::alloc::Global;
@@ -22,28 +23,9 @@ fn supplied(number: u16) -> Proc
 fn supplied_number(name: &[u8]) -> u16
     ensures { result ≡ bindings.supplied_number name.now }
 {
-    if name == b"RRIN".as_slice() {
-        1
-    } else if name == b"RROUT".as_slice() {
-        2
-    } else if name == b"DELAY".as_slice() {
-        3
-    } else if name == b"WAIT".as_slice() {
-        4
-    } else if name == b"SIGNAL".as_slice() {
-        5
-    } else if name == b"SECURE".as_slice() {
-        6
-    } else if name == b"RELEASE".as_slice() {
-        7
-    } else if name == b"CLOCK".as_slice() {
-        8
-    } else if name == b"TASKNO".as_slice() {
-        9
-    } else if name == b"RRGEL".as_slice() {
-        10
-    } else {
-        0
+    match Supplied::named(name) {
+        Some(brick) if brick.number() <= 10 => u16::from(brick.number()),
+        _ => 0,
     }
 }
 

@@ -11,9 +11,7 @@ use crate::join::joined_terms;
 use crate::share::shared;
 use crate::spot::{Spot, element, field, led, length, read, reference};
 use rt_modes::Mode;
-use rt_tree::{
-    Callee, Op2, Place, Scope, Value, ValueMode, copy_value_mode, found_at, mode_of,
-};
+use rt_tree::{Callee, Op2, Place, Scope, Value, ValueMode, copy_value_mode, found_at, mode_of};
 use rt_words::{List, Memory};
 use rt_work::{PathNode, TermNode, TermsNode};
 use std::alloc::Global;
@@ -117,12 +115,7 @@ fn call(
         Callee::Through(value) => {
             let procedure = term(alloc, scope, value.get())?;
             let arguments = shared(alloc, arguments)?;
-            call_by(
-                alloc,
-                &mode_of(scope, value.get()),
-                procedure,
-                arguments,
-            )
+            call_by(alloc, &mode_of(scope, value.get()), procedure, arguments)
         }
     }
 }

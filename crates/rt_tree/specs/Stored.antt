@@ -27,6 +27,7 @@ use Rattle.rt_tree_nodes.specs.declared.store.Proc.{Proc}
 use Rattle.rt_tree.specs.Modules.{is_here, mode_along}
 use Rattle.rt_tree_nodes.specs.Scopes.{faces, field_at, proc_mode}
 use Rattle.rt_tree.specs.Taken.{taken}
+use Rattle.rt_supplied.specs.Bricks.{supplied_names}
 
 abbrev pub System : Type 0
 System = List ModuleParts
@@ -41,11 +42,6 @@ pub record HasBrick (ps : System) (m b : ℕ) (p : ModuleParts) (d : Brick) : Ty
   pub at : slice_get p.bricks b ≡ Some d
 
 -- ---- bricks that stand for one another
-
--- the supplied procedures, from number 1 on
-abbrev pub supplied_names : List (List ℕ)
-supplied_names =
-    codes "RRIN" ∷ codes "RROUT" ∷ codes "DELAY" ∷ codes "WAIT" ∷ codes "SIGNAL" ∷ codes "SECURE" ∷ codes "RELEASE" ∷ codes "CLOCK" ∷ codes "TASKNO" ∷ codes "RRGEL" ∷ []
 
 abbrev pub brick : ℕ → ℕ → Proc
 brick m b = record { «module» = m; brick = b }
