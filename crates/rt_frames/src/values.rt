@@ -15,10 +15,11 @@ use crate::frame::{CallPoint, Target};
 use crate::measure::{Address, Measured, Reached, above, behind, greater, plus};
 use rt_modes::Mode;
 use rt_tree::{
-    Callee, Found, Op1, Op2, Place, Scope, Signature, Value, ValueMode, copy_value_mode,
-    dyadic_mode, monadic_mode,
+    Callee, Found, Lent, Op1, Op2, Place, Scope, Signature, Value, ValueMode, dyadic_mode,
+    monadic_mode,
 };
-use rt_words::{Boxed, List, Memory};
+use rt_tree_nodes::copy_value_mode;
+use rt_words::{List, Memory};
 use std::alloc::Global;
 
 /// Walks a place above so many words: adds its points, and answers what it is.

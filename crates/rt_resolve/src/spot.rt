@@ -11,7 +11,8 @@ ghost use Rattle.rt_resolve.specs.Trees as trees;
 
 use crate::share::shared;
 use rt_modes::Mode;
-use rt_tree::{Found, Lent, ValueMode, copy_lent, copy_mode};
+use rt_tree::{Found, Lent, ValueMode, copy_mode};
+use rt_tree_nodes::copy_lent;
 use rt_words::Memory;
 use rt_work::{PathNode, StmtNode, TermNode};
 use std::alloc::Global;
