@@ -1,0 +1,8 @@
+use Rattle.rt_deeds.proofs.Changes.{all_applied, kept}
+use Rattle.rt_deeds.proofs.laws.files_change_by_writes.Goals as goal
+
+pub returns-clause-applied : goal.returns-clause-applied
+returns-clause-applied c = all_applied
+
+pub returns-clause-kept : goal.returns-clause-kept
+returns-clause-kept c = kept
