@@ -1,5 +1,5 @@
 -- The fault lines: FAULT, the status, and what is said of it.
-use Rattle.std.specs.Prelude.{ℕ, List, [], ◌∷◌, ◌++◌, codes, decimal, map, Option, Some, None}
+use Rattle.std.specs.Prelude.{ℕ, List, [], ◌∷◌, codes, decimal, map, Option, Some, None}
 use Rattle.pdp_core.specs.declared.cpu.Kind.{Kind}
 use Rattle.pdp_core.specs.declared.cpu.Kind.TheVariants as kind
 use Rattle.rt_words.specs.Operators.{octal6}

@@ -25,6 +25,7 @@ dotted a b = a ++ (codes "." ++ b)
 abbrev pub text_of : Word → List ℕ
 text_of (word.Text t) = t.now
 text_of (word.Number n) = decimal n
+text_of (word.Negative n) = codes "-" ++ decimal n
 text_of (word.Dotted a b) = dotted a.now b.now
 
 abbrev pub texts_of : List Word → List (List ℕ)

@@ -4,7 +4,9 @@
 mod fault;
 mod faults;
 mod line;
+mod reports;
 mod word;
 
 pub use fault::{FaultLine, FileKind, Form, ProcName, TextFault};
 pub use faults::{fault_line, fault_status, refusal_report};
+pub use reports::{report, report_room};

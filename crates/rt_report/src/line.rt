@@ -16,6 +16,15 @@ fn put_number(out: &mut Text, number: u64) -> Result<(), Memory>
     out.push_all(digits.format(number).as_bytes())
 }
 
+fn put_negative(out: &mut Text, number: u64) -> Result<(), Memory>
+    ensures items { OnOk result (out.new.items ≡ out.old.items ++ (codes "-" ++ decimal number)) }
+    ensures room { 1 + length (decimal number) ≤ out.old.spare → IsOk result }
+    ensures spare { out.old.spare ≤ out.new.spare + (1 + length (decimal number)) }
+{
+    out.push_all(b"-")?;
+    put_number(out, number)
+}
+
 fn put_dotted(out: &mut Text, first: &[u8], second: &[u8]) -> Result<(), Memory>
     ensures items { OnOk result (out.new.items ≡ out.old.items ++ (first.now ++ (codes "." ++ second.now))) }
     ensures room { length first.now + (1 + length second.now) ≤ out.old.spare → IsOk result }
@@ -34,6 +43,7 @@ fn put_word(out: &mut Text, word: Word<'_>) -> Result<(), Memory>
     match word {
         Word::Text(text) => out.push_all(text),
         Word::Number(number) => put_number(out, number),
+        Word::Negative(number) => put_negative(out, number),
         Word::Dotted(first, second) => put_dotted(out, first, second),
     }
 }

@@ -1,4 +1,4 @@
-use Rattle.std.proofs.Common.{◌≡◌, ◌≤◌, ℕ, ◌+◌, List, [], ◌∷◌, ◌++◌, length, drop, arith, length-append}
+use Rattle.std.proofs.Common.{◌≤◌, ℕ, List, [], ◌∷◌, length, drop, arith, length-append}
 use Rattle.rt_report.specs.Lines.{behind, text_of, texts_of}
 use Rattle.rt_report.proofs.line.put_line.Goals as goal
 
