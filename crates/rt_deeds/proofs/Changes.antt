@@ -2,24 +2,24 @@
 use Rattle.std.proofs.Common.{◌≡◌, ◌≢◌, inl, inr, ℕ, ◌≤◌, Bool, true, false, if◌then◌else◌, List, [], ◌∷◌, Option, Some, None, refl, sym, ap, ◌∙◌, subst, arith}
 use Rattle.std.specs.Str.{bytes_eq}
 use Rattle.std.proofs.lemmas.Slice.Eq.{bytes_eq-Decides}
+use Rattle.std.specs.Io.KnownBytes.{Appends}
+use Rattle.rt_words.specs.Causes.{Rose}
+use Rattle.rt_outside.specs.Appending.{AppendsStart}
 use Rattle.rt_outside.specs.Files.{Files, WhereTold, Has, ChangesOnly}
-use Rattle.rt_deeds.specs.Deeds.{Deed, Writes, Puts, Outside, IsDone, HasFailed, Performed, nothing, done, failed}
-use Rattle.rt_deeds.specs.Laws.{Both, Among, with_file, applied, names_in, IsLater}
+use Rattle.rt_deeds.specs.Deeds.{Deed, Writes, Puts, Outside, IsLater, IsDone, HasFailed, Performed, nothing, done, failed}
+use Rattle.rt_deeds.specs.Laws.{Both, Among, with_file, applied, names_in, IsEarlier}
 
 -- ---- counts
 
-same_below : (m n : ℕ) → n ≡ m → m ≤ n
-same_below m n e = omega (arith, e)
-
 one_later : (d : Deed) (a b : Outside) → IsDone d a b → IsLater a b
-one_later (Writes name bytes) a b h = record { writes = h.2; faults = same_below a.faults b.faults h.4 }
-one_later (Puts bytes) a b h = record { writes = λ n. same_below (a.writes n) (b.writes n) (ap (λ (f : List ℕ → ℕ). f n) h.3); faults = h.1 }
+one_later (Writes name bytes) a b h = h.3
+one_later (Puts bytes) a b h = h.2
 
 failed_later : (d : Deed) (a b : Outside) → HasFailed d a b → IsLater a b
-failed_later (Writes name bytes) a b h = record { writes = h.2; faults = same_below a.faults b.faults h.4 }
-failed_later (Puts bytes) a b h = record { writes = λ n. same_below (a.writes n) (b.writes n) (ap (λ (f : List ℕ → ℕ). f n) h.4); faults = h.2 }
+failed_later (Writes name bytes) a b h = h.3
+failed_later (Puts bytes) a b h = h.3
 
-two_later : (a b c : Outside) → IsLater a b → IsLater b c → IsLater a c
+pub two_later : (a b c : Outside) → IsLater a b → IsLater b c → IsLater a c
 two_later a b c h k = record { writes = λ n. omega (arith, h.writes n, k.writes n); faults = omega (arith, h.faults, k.faults) }
 
 pub later : (ds : List Deed) (a b : Outside) (all : Bool) → Performed ds a b all → IsLater a b
@@ -77,12 +77,12 @@ kept (Writes name bytes ∷ ds) a c all (done {b = b} h k) =
     (both_only name a.files b.files h.1) (kept ds b c all k)
 kept (Puts bytes ∷ ds) a c all (done {b = b} h k) =
     both_onward a.files b.files c.files (Keeping []) (Keeping ds) (Keeping (Puts bytes ∷ ds)) (λ f g i p q n free. q n free ∙ p n (λ no. no))
-    (no_change [] a.files b.files h.2) (kept ds b c all k)
+    (no_change [] a.files b.files h.1) (kept ds b c all k)
 kept (Writes name bytes ∷ ds) a b all (failed h) =
     both_onward a.files b.files b.files (λ f g. (n : List ℕ) → n ≢ name → g n ≡ f n) (Keeping []) (Keeping (Writes name bytes ∷ ds))
     (λ f g i p q n free. q n (λ no. no) ∙ p n (λ same. free (inl same)))
     (both_only name a.files b.files h.1) (no_change [] b.files b.files refl)
-kept (Puts bytes ∷ ds) a b all (failed h) = no_change (Puts bytes ∷ ds) a.files b.files h.3
+kept (Puts bytes ∷ ds) a b all (failed h) = no_change (Puts bytes ∷ ds) a.files b.files h.2
 
 -- ---- all deeds done
 
@@ -107,8 +107,29 @@ applied_by all (Writes name bytes ∷ ds) a c e (done {b = b} h k) =
 applied_by all (Puts bytes ∷ ds) a c e (done {b = b} h k) =
     both_onward a.files b.files c.files (λ f g. (n : List ℕ) → g n ≡ f n) (Applying ds) (Applying (Puts bytes ∷ ds))
     (λ f g i p q n. q n ∙ same_applied ds g f p n)
-    (both_same a.files b.files (λ f g. (n : List ℕ) → g n ≡ f n) h.2 (λ f n. refl)) (applied_by all ds b c e k)
+    (both_same a.files b.files (λ f g. (n : List ℕ) → g n ≡ f n) h.1 (λ f n. refl)) (applied_by all ds b c e k)
 applied_by all (d ∷ ds) a b e (failed h) = absurd cc
 
 pub all_applied : (ds : List Deed) (a b : Outside) → Performed ds a b true → Both a.files b.files (Applying ds)
 all_applied ds a b h = applied_by true ds a b refl h
+
+-- ---- earlier moments
+
+rose_earlier : (a b c : ℕ) → a ≤ b → Rose b c → Rose a c
+rose_earlier a b c h k = omega (arith, h, k)
+
+one_earlier : (d : Deed) (a b c : Outside) → IsEarlier a b → IsDone d b c → IsDone d a c
+one_earlier (Writes name bytes) a b c e h =
+    (h.0, subst (λ (f : Option Files). ChangesOnly name f c.files) (sym e.files) h.1, h.2 ∙ sym e.written, two_later a b c e.later h.3)
+one_earlier (Puts bytes) a b c e h =
+    (subst (λ (w : Option (List ℕ)). Appends w c.written bytes) (sym e.written) h.0, h.1 ∙ sym e.files, two_later a b c e.later h.2)
+
+failed_earlier : (d : Deed) (a b c : Outside) → IsEarlier a b → HasFailed d b c → HasFailed d a c
+failed_earlier (Writes name bytes) a b c e h =
+    (rose_earlier (a.writes name) (b.writes name) (c.writes name) (e.later.writes name) h.0, subst (λ (f : Option Files). ChangesOnly name f c.files) (sym e.files) h.1, h.2 ∙ sym e.written, two_later a b c e.later h.3)
+failed_earlier (Puts bytes) a b c e h =
+    (rose_earlier a.faults b.faults c.faults e.later.faults h.0, subst (λ (w : Option (List ℕ)). AppendsStart w c.written bytes) (sym e.written) h.1, h.2 ∙ sym e.files, two_later a b c e.later h.3)
+
+pub earlier : (d : Deed) (ds : List Deed) (a b c : Outside) (all : Bool) → IsEarlier a b → Performed (d ∷ ds) b c all → Performed (d ∷ ds) a c all
+earlier d ds a b c all e (done {b = m} h k) = done (one_earlier d a b m e h) k
+earlier d ds a b c all e (failed h) = failed (failed_earlier d a b c e h)

@@ -25,16 +25,21 @@ pub record Outside : Type 0 where
   pub written : Option (List ℕ)
   pub faults : ℕ
 
+-- no count has fallen
+pub record IsLater (a b : Outside) : Type 0 where
+  pub writes : (n : List ℕ) → a.writes n ≤ b.writes n
+  pub faults : a.faults ≤ b.faults
+
 -- the deed was done, and nothing else
 abbrev pub IsDone : Deed → Outside → Outside → Type 0
-IsDone (Writes name bytes) a b = WhereTold b.files (Has name bytes) × ChangesOnly name a.files b.files × ((n : List ℕ) → a.writes n ≤ b.writes n) × (b.written ≡ a.written) × (b.faults ≡ a.faults)
-IsDone (Puts bytes) a b = Appends a.written b.written bytes × (a.faults ≤ b.faults) × (b.files ≡ a.files) × (b.writes ≡ a.writes)
+IsDone (Writes name bytes) a b = WhereTold b.files (Has name bytes) × ChangesOnly name a.files b.files × (b.written ≡ a.written) × IsLater a b
+IsDone (Puts bytes) a b = Appends a.written b.written bytes × (b.files ≡ a.files) × IsLater a b
 
 -- The deed failed, and the count of its very object rose: of a file that is written no more is known, of the output a proper
 -- start of the bytes was put.
 abbrev pub HasFailed : Deed → Outside → Outside → Type 0
-HasFailed (Writes name bytes) a b = Rose (a.writes name) (b.writes name) × ChangesOnly name a.files b.files × ((n : List ℕ) → a.writes n ≤ b.writes n) × (b.written ≡ a.written) × (b.faults ≡ a.faults)
-HasFailed (Puts bytes) a b = Rose a.faults b.faults × AppendsStart a.written b.written bytes × (a.faults ≤ b.faults) × (b.files ≡ a.files) × (b.writes ≡ a.writes)
+HasFailed (Writes name bytes) a b = Rose (a.writes name) (b.writes name) × ChangesOnly name a.files b.files × (b.written ≡ a.written) × IsLater a b
+HasFailed (Puts bytes) a b = Rose a.faults b.faults × AppendsStart a.written b.written bytes × (b.files ≡ a.files) × IsLater a b
 
 -- All deeds were done in their order; or one failed, those before it were done, and none behind it was begun.
 pub data Performed : List Deed → Outside → Outside → Bool → Type 0 where

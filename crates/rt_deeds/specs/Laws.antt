@@ -2,7 +2,7 @@
 use Rattle.std.specs.Prelude.{◌≡◌, ◌⊎◌, ℕ, ◌≤◌, Bool, true, false, if◌then◌else◌, List, [], ◌∷◌, ◌++◌, Option, Some, None}
 use Rattle.std.specs.Str.{bytes_eq}
 use Rattle.rt_outside.specs.Files.{Files}
-use Rattle.rt_deeds.specs.Deeds.{Deed, Writes, Puts, Outside, HasFailed, Performed}
+use Rattle.rt_deeds.specs.Deeds.{Deed, Writes, Puts, Outside, IsLater, HasFailed, Performed}
 
 -- files with one more of a name
 abbrev pub with_file : List ℕ → List ℕ → Files → Files
@@ -59,13 +59,19 @@ abbrev pub NothingFollows : Type 0
 NothingFollows = (ds : List Deed) (a c : Outside) → Performed ds a c false → Stopped ds a c
 
 -- no count falls
-pub record IsLater (a b : Outside) : Type 0 where
-  pub writes : (n : List ℕ) → a.writes n ≤ b.writes n
-  pub faults : a.faults ≤ b.faults
-
 abbrev pub CountsNeverFall : Type 0
 CountsNeverFall = (ds : List Deed) (a b : Outside) (all : Bool) → Performed ds a b all → IsLater a b
 
 -- Deeds that were done, and others behind them, are one stretch of deeds.
 abbrev pub StretchesJoin : Type 0
 StretchesJoin = (ds es : List Deed) (a b c : Outside) (all : Bool) → Performed ds a b true → Performed es b c all → Performed (ds ++ es) a c all
+
+-- the same is held, and no count was higher
+pub record IsEarlier (a b : Outside) : Type 0 where
+  pub files : a.files ≡ b.files
+  pub written : a.written ≡ b.written
+  pub later : IsLater a b
+
+-- Deeds that were performed were performed from every earlier moment at which the same was held.
+abbrev pub BeginsEarlier : Type 0
+BeginsEarlier = (d : Deed) (ds : List Deed) (a b c : Outside) (all : Bool) → IsEarlier a b → Performed (d ∷ ds) b c all → Performed (d ∷ ds) a c all

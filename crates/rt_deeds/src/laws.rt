@@ -1,6 +1,6 @@
 //! The laws, as the contracts of functions that do nothing.
 
-ghost use Rattle.rt_deeds.specs.Laws.{FilesAreApplied, OthersAreKept, NothingFollows, CountsNeverFall, StretchesJoin};
+ghost use Rattle.rt_deeds.specs.Laws.{FilesAreApplied, OthersAreKept, NothingFollows, CountsNeverFall, StretchesJoin, BeginsEarlier};
 
 /// Where all deeds were done, the files are those before with the writes applied in their order; and whether they were or not,
 /// files of other names stay as they were.
@@ -19,7 +19,9 @@ pub fn counts_never_fall()
     ensures { CountsNeverFall }
 {}
 
-/// Deeds that were done, and others behind them, are one stretch of deeds.
+/// Deeds that were done, and others behind them, are one stretch of deeds; and deeds that were performed were performed from every
+/// earlier moment at which the same was held.
 pub fn stretches_join()
-    ensures { StretchesJoin }
+    ensures join { StretchesJoin }
+    ensures earlier { BeginsEarlier }
 {}
