@@ -1,5 +1,5 @@
 -- What follows from deeds that were performed: which files change, and what stands where one failed.
-use Rattle.std.specs.Prelude.{◌≡◌, ◌⊎◌, ℕ, ◌≤◌, Bool, true, false, if◌then◌else◌, List, [], ◌∷◌, ◌++◌, Option, Some, None}
+use Rattle.std.specs.Prelude.{◌≡◌, ◌⊎◌, ℕ, Bool, true, false, if◌then◌else◌, List, [], ◌∷◌, ◌++◌, Option, Some, None}
 use Rattle.std.specs.Str.{bytes_eq}
 use Rattle.rt_outside.specs.Files.{Files}
 use Rattle.rt_deeds.specs.Deeds.{Deed, Writes, Puts, Outside, IsLater, HasFailed, Performed}

@@ -1,6 +1,6 @@
 //! Doing deeds.
 
-ghost use Rattle.std.specs.Prelude.{◌≡◌, is_ok};
+ghost use Rattle.std.specs.Prelude.{◌≡◌, ◌≤◌, ℕ, List, is_ok};
 ghost use Rattle.rt_deeds.specs.Deeds.{deed_of, deeds_of, IsDone, HasFailed, Performed};
 ghost use Rattle.std.specs.Prelude.{OnOk, OnErr};
 
@@ -18,6 +18,7 @@ fn perform_one<S: Store, O: Sink>(
     ensures failed { OnErr result (HasFailed (deed_of deed.now)
         (record { files = S.files store.old; writes = S.write_faults store.old; written = O.written output.old; faults = O.faults output.old })
         (record { files = S.files store.new; writes = S.write_faults store.new; written = O.written output.new; faults = O.faults output.new })) }
+    ensures reads_later { (name : List ℕ) → S.read_faults store.old name ≤ S.read_faults store.new name }
 {
     match deed {
         Deed::Write { name, bytes } => store.write(name, bytes.as_slice()),
@@ -35,10 +36,11 @@ pub fn perform<S: Store, O: Sink>(
     output: &mut O,
     deeds: &[Deed<'_>],
 ) -> Result<(), Failed>
-    ensures { Performed (deeds_of deeds.now)
+    ensures performed { Performed (deeds_of deeds.now)
         (record { files = S.files store.old; writes = S.write_faults store.old; written = O.written output.old; faults = O.faults output.old })
         (record { files = S.files store.new; writes = S.write_faults store.new; written = O.written output.new; faults = O.faults output.new })
         (is_ok result) }
+    ensures reads_later { (name : List ℕ) → S.read_faults store.old name ≤ S.read_faults store.new name }
 {
     for deed in deeds {
         match perform_one(store, output, deed) {

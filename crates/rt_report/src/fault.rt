@@ -83,7 +83,7 @@ pub enum FaultLine {
     },
     BadObject {
         file: Bytes,
-        at: u32,
+        at: u64,
     },
     ObjectVersion {
         file: Bytes,
@@ -100,7 +100,7 @@ pub enum FaultLine {
     },
     BadImage {
         file: Bytes,
-        at: u32,
+        at: u64,
     },
     /// Two ENT bricks have one name.
     Duplicate {

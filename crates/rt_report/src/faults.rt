@@ -285,7 +285,7 @@ fn put_fault_line(alloc: Global, out: &mut Text, fault: &FaultLine) -> Result<()
             put_line(out, FAULT, &words)
         }
         FaultLine::BadObject { file, at } => {
-            put_place(out, file.as_slice(), (12, 40), "AT", u64::from(*at))
+            put_place(out, file.as_slice(), (12, 40), "AT", *at)
         }
         FaultLine::ObjectVersion { file, found } => {
             put_place(out, file.as_slice(), (12, 41), "FOUND", u64::from(*found))
@@ -296,9 +296,7 @@ fn put_fault_line(alloc: Global, out: &mut Text, fault: &FaultLine) -> Result<()
         FaultLine::ObjectLine { file, line } => {
             put_place(out, file.as_slice(), (13, 51), "LINE", u64::from(*line))
         }
-        FaultLine::BadImage { file, at } => {
-            put_place(out, file.as_slice(), (15, 70), "AT", u64::from(*at))
-        }
+        FaultLine::BadImage { file, at } => { put_place(out, file.as_slice(), (15, 70), "AT", *at) }
         FaultLine::Duplicate { brick } => put_line(
             out,
             FAULT,

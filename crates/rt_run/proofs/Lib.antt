@@ -11,3 +11,4 @@ pub mod Serving
 pub mod Completing
 pub mod Going
 pub mod Starting
+pub mod Counted

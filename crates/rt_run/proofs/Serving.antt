@@ -18,7 +18,7 @@ use Rattle.rt_run.specs.Inputs.{Feed}
 use Rattle.rt_run.specs.Carrying.{Carries}
 use Rattle.rt_run.specs.Turn.{Lasts}
 
-abbrev Kept : Roster → Roster → Type 0
+abbrev pub Kept : Roster → Roster → Type 0
 Kept r q = length q.tasks ≡ length r.tasks
 
 kept_row : (r : Roster) (i : ℕ) (t : TaskRow) → Kept r (with_row r i t)
@@ -51,7 +51,7 @@ either : (r : Roster) (c : Bool) (a b : Roster × Outcome) → Kept r a.0 → Ke
 either r true a b h k = h
 either r false a b h k = k
 
-kept_service : (r : Roster) (i : ℕ) (svc : Svc) → Kept r (serve_rules r i svc).0
+pub kept_service : (r : Roster) (i : ℕ) (svc : Svc) → Kept r (serve_rules r i svc).0
 kept_service r i (Delay n) = either r (is_delay n) _ _ (kept_arrives r i _) (kept_arrives r i _)
 kept_service r i (Wait n) = either r (is_number n) _ _ (either r (flag_of r n) _ _ refl (kept_arrives r i _)) refl
 kept_service r i (Signal n) = either r (is_number n) _ _ (kept_raise r n (first (awaits_event n) r)) refl

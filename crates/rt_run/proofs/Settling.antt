@@ -108,7 +108,7 @@ length-arrives : (r : Roster) (o : Option ℕ) → length (arrives_if r o).tasks
 length-arrives r None = refl
 length-arrives r (Some i) = simp length-set
 
-length-tick : (r : Roster) → length (tick r).tasks ≡ length r.tasks
+pub length-tick : (r : Roster) → length (tick r).tasks ≡ length r.tasks
 length-tick r = length-counted _ _ ∙ length-arrives (record r { clock = r.clock + 1 }) (running r)
 
 some_left : (gs : List ℕ) (gap : ℕ) → Some gap ≡ slice_get gs 0 → length gs ≡ length (drop 1 gs) + 1

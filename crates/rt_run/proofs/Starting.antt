@@ -175,11 +175,11 @@ module _ (image : ImageParts) (ranges : HasImageRanges image) (os : List (Option
       stands = subst (λ (x : Sharing). Stands image x d.tasks) (sym a) (subst (λ (ts : List Task). Stands image (start_sharing image) ts) (sym b) stands);
     }
 
-length-rows : (n : ℕ) (ps : List ℕ) → length (rules.rows_from n ps) ≡ length ps
+pub length-rows : (n : ℕ) (ps : List ℕ) → length (rules.rows_from n ps) ≡ length ps
 length-rows n [] = refl
 length-rows n (p ∷ ps) = ap suc (length-rows (n + 1) ps)
 
-length-priorities : (ts : List ImageTask) → length (map priority_of ts) ≡ length ts
+pub length-priorities : (ts : List ImageTask) → length (map priority_of ts) ≡ length ts
 length-priorities [] = refl
 length-priorities (t ∷ ts) = ap suc (length-priorities ts)
 

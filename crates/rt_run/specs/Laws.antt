@@ -1,9 +1,9 @@
 -- Laws of calls that run a machine.
-use Rattle.std.specs.Prelude.{◌≡◌, ℕ, ◌≤◌, List, Option, Some, drop}
+use Rattle.std.specs.Prelude.{◌≡◌, ℕ, ◌+◌, ◌≤◌, List, Option, Some, length, drop}
 use Rattle.rt_image.specs.declared.image.ImageParts.{ImageParts}
 use Rattle.rt_run.specs.declared.machine.End.{End}
 use Rattle.rt_run.specs.Inputs.{Feed}
-use Rattle.rt_run.specs.Boundaries.{State, Why, Over, boundary}
+use Rattle.rt_run.specs.Boundaries.{State, Why, Over, state_of, boundary}
 use Rattle.rt_run.specs.Picture.{Standing, Shows}
 use Rattle.rt_run.specs.Runs.{IsAtBoundary, Reaches, Runs}
 
@@ -24,3 +24,12 @@ ToldBytesAreRunOver = (limit : ℕ) (end : End) (d d2 : Standing) (from to : Fee
 -- a run that is at its end is there with each greater limit
 abbrev pub EndsStay : Type 0
 EndsStay = (image : ImageParts) (gaps all : List ℕ) (limit limit2 : ℕ) (why : Why) (s : State) → boundary image gaps all limit ≡ Over why s → limit ≤ limit2 → boundary image gaps all limit2 ≡ Over why s
+
+-- the rules have as many tasks as the image, and each tick of the list is taken or left
+pub record IsCounted (image : ImageParts) (gaps : List ℕ) (s : State) : Type 0 where
+  pub tasks : length s.rules.tasks ≡ length image.tasks
+  pub ticks : length s.placements + length s.gaps ≡ length gaps
+
+-- so it is at each boundary of a run, and at its end
+abbrev pub BoundariesAreCounted : Type 0
+BoundariesAreCounted = (image : ImageParts) (gaps all : List ℕ) (k : ℕ) → IsCounted image gaps (state_of (boundary image gaps all k))

@@ -18,6 +18,6 @@ mod settle;
 mod stretch;
 mod timetable;
 
-pub use laws::{ends_stay, told_bytes_are_run_over, two_calls_are_one};
+pub use laws::{boundaries_are_counted, ends_stay, told_bytes_are_run_over, two_calls_are_one};
 pub use machine::End;
 pub use run::Run;

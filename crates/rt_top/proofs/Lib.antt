@@ -1,13 +1,6 @@
-pub mod WordReads
-pub mod Instructions
-pub mod Access
-pub mod CodeWords
-pub mod Picture
-pub mod Joining
-pub mod Loops
-pub mod Runs
-pub mod Lists
-pub mod Rises
 pub mod Accepts
-pub mod Endings
+pub mod Leaves
+pub mod Counts
+pub mod Ends
+pub mod Causes
 pub mod Clauses

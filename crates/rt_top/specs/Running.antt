@@ -1,61 +1,101 @@
--- The machine of the code, as a state of the machine run.
-use Rattle.std.specs.Prelude.{ℕ, ◌%◌, ◌==◌, if◌then◌else◌, ◌≡◌, ◌≤◌, List, [], ◌∷◌, ◌++◌, Option, length, slice_index}
-use Rattle.std.specs.Io.KnownBytes.{Appends}
-use Rattle.pdp_core.specs.World.{World}
-use Rattle.pdp_core.specs.Protection.{protected}
-use Rattle.pdp_plain.specs.declared.FlatBus.{FlatBus}
-use Rattle.rt_top.specs.declared.image.Image.{Image}
-use Rattle.rt_top.specs.declared.machine.Machine.{Machine}
-use Rattle.rt_top.specs.declared.machine.Asked.{Asked}
-use Rattle.rt_top.specs.declared.machine.Asked.TheVariants as asked
-use Rattle.rt_top.specs.declared.machine.Ending.{Ending}
-use Rattle.rt_top.specs.declared.machine.Ending.TheVariants as ending
-use Rattle.rt_top.specs.Machine.{State, Reached, Faulted, steps_of, argument, boundary_at, boundary}
-use Rattle.pdp_core.specs.declared.cpu.Regs.{Regs}
-use Rattle.rt_top.specs.declared.condition.Condition.{Condition}
-use Rattle.rt_top.specs.declared.condition.Condition.TheVariants.{Ended}
-use Rattle.rt_top.specs.Report.{RunReport}
+-- What `run IMAGE TICKS LIMIT REPORT` is to do.
+use Rattle.std.specs.Prelude.{◌≡◌, ◌⊎◌, ℕ, ◌≤◌, List, [], length, map, Option}
+use Rattle.rt_commands.specs.Commands.{IsCommand}
+use Rattle.rt_commands.specs.declared.command.Command.TheVariants as command
+use Rattle.rt_commands.specs.declared.lent.TimedWords.{TimedWords}
+use Rattle.rt_deeds.specs.Deeds.{Outside, IsLater}
+use Rattle.rt_image.specs.declared.image.ImageParts.{ImageParts}
+use Rattle.rt_image.specs.declared.image.ImageTask.{ImageTask}
+use Rattle.rt_outside.specs.Files.{Files}
+use Rattle.rt_report.specs.declared.fault.FaultLine.{FaultLine}
+use Rattle.rt_report.specs.declared.fault.FaultLine.TheVariants as fault
+use Rattle.rt_report.specs.Faults.{status_of, refusal_text}
+use Rattle.rt_report.specs.Reports.{report_text, run_status, room_for}
+use Rattle.rt_run.specs.declared.machine.End.{End}
+use Rattle.rt_run.specs.declared.machine.End.TheVariants.{ReadFault, WriteFault}
+use Rattle.rt_run.specs.Boundaries.{start}
+use Rattle.rt_run.specs.Picture.{Standing, Shows}
+use Rattle.rt_run.specs.Runs.{Runs}
+use Rattle.rt_words.specs.Causes.{Rose}
+use Rattle.rt_top.specs.Calls.{Call, before, after, KeepsInput, NothingDone, Reports}
+use Rattle.rt_top.specs.declared.reading.Unaccepted.{Unaccepted}
+use Rattle.rt_top.specs.declared.reading.Unaccepted.TheVariants.{Memory, Refused, Failed}
+use Rattle.rt_top.specs.declared.running.Ready.{Ready}
+use Rattle.rt_top.specs.Reading.{HasImage, RefusesImage, HasTicks, RefusesTicks}
 
-abbrev pub world_of : FlatBus → World
-world_of b = protected b.protection (λ a. slice_index b.bytes.items a)
+-- what is asked: the names of the image and of the tick text, the limit, and the name of the report
+pub record Asked : Type 0 where
+  pub image : List ℕ
+  pub ticks : List ℕ
+  pub limit : ℕ
+  pub report : List ℕ
 
--- of this image, with what was put so far, and the marks of the instructions so far
-abbrev pub state_of_machine : Image → Machine → List ℕ → List ℕ → State
-state_of_machine image m out made = record {
-  regs = m.regs;
-  world = world_of m.bus;
-  outside = record { condition = m.condition; priority = image.task.priority; output = out; taken = 0 };
-  made = made;
-}
+abbrev pub asked : TimedWords → Asked
+asked w = record { image = w.first.now; ticks = w.second.now; limit = w.limit; report = w.last.now }
 
--- an instruction with this mark leads from the old machine to this
-abbrev pub Does : Image → Asked → Reached → Machine → Machine → List ℕ → List ℕ → ℕ → Type 0
-Does image asked.Went r old new out made mark = r ≡ boundary_at (state_of_machine image new out (mark ∷ made))
-Does image (asked.Puts b) r old new out made mark = r ≡ boundary_at (state_of_machine image new (out ++ b ∷ []) (mark ∷ made))
-Does image asked.Faulted r old new out made mark = r ≡ Faulted (state_of_machine image old out made)
+abbrev pub IsRun : List (List ℕ) → Asked → Type 0
+IsRun words r = IsCommand words (command.Run r.image r.ticks r.limit r.report)
 
--- the machine stands at boundary k of the image's run, and has put this run's output
-pub record Reaches (image : Image) (k : ℕ) (m : Machine) (old new : Option (List ℕ)) : Type 0 where
-  pub made : List ℕ
-  pub out : List ℕ
-  pub count : length made ≡ m.instructions
-  pub steps : steps_of made ≡ m.steps
-  pub put : Appends old new out
-  pub reached : (input : List ℕ) → boundary image input k ≡ boundary_at (state_of_machine image m out made)
+-- ---- the files, in their turn
 
--- a run of the image up to the limit
-abbrev pub Ran : Ending → Image → ℕ → Machine → Option (List ℕ) → Option (List ℕ) → Type 0
-Ran ending.Finished image limit m old new = Reaches image limit m old new
-Ran ending.OutputFailed image limit m old new = (k : ℕ) × (before : Machine) × (k ≤ limit) × Reaches image k before old new
-Ran ending.Faulted image limit m old new = (s : State) × ((input : List ℕ) → boundary image input limit ≡ Faulted s)
+abbrev pub Refuses : Option Files → Asked → FaultLine → Type 0
+Refuses files r f = RefusesImage files r.image f ⊎ ((i : ImageParts) × HasImage files r.image i × RefusesTicks files r.ticks f)
 
--- the report of the machine's run, with this output
-abbrev pub machine_report : Machine → List ℕ → RunReport
-machine_report m out = record { condition = m.condition; instructions = m.instructions; steps = m.steps; output = out; taken = 0 }
+-- the file of this name is read in its turn, those before it being accepted
+abbrev pub IsInTurn : Option Files → Asked → List ℕ → Type 0
+IsInTurn files r name = (name ≡ r.image) ⊎ ((i : ImageParts) × HasImage files r.image i × (name ≡ r.ticks))
 
--- what a service is for the code: RROUT's byte is still to be put, the end is done in the machine
-abbrev pub asks : ℕ → Regs → Asked
-asks n g = if n == 2 then asked.Puts (argument g % 256) else if n == 11 then asked.Went else asked.Faulted
+-- why the files aren't accepted
+abbrev pub IsRefused : Option Files → (List ℕ → ℕ) → (List ℕ → ℕ) → Asked → Unaccepted → Type 0
+IsRefused files reads reads_after r Memory = Unit {0}
+IsRefused files reads reads_after r (Refused f) = Refuses files r f
+IsRefused files reads reads_after r (Failed f) = (name : List ℕ) × (f ≡ fault.Unread name) × IsInTurn files r name × Rose (reads name) (reads_after name)
 
-abbrev pub condition_after : ℕ → Condition → Condition
-condition_after n c = if n == 11 then Ended else c
+-- ---- what was done
+
+abbrev pub names_of : List ImageTask → List (List ℕ)
+names_of = map (λ (t : ImageTask). t.name)
+
+-- a run that stands at its start, the names of its tasks, and room for its report
+pub record IsReady (image : ImageParts) (gaps : List ℕ) (r : Ready) : Type 0 where
+  pub names : r.names ≡ names_of image.tasks
+  pub few : length r.names ≤ 32
+  pub begins : Shows image r.run (start image gaps)
+  pub empty : r.report.items ≡ []
+  pub room : room_for r.names (length gaps) ≤ r.report.spare
+
+pub record Begins (r : Ready) : Type 0 where
+  pub image : ImageParts
+  pub gaps : List ℕ
+  pub ready : IsReady image gaps r
+
+-- a refusal is reported, and nothing else is done
+pub record IsRefusal (c : Call) (r : Asked) (f : FaultLine) (status : ℕ) : Type 0 where
+  pub reported : Reports r.report (refusal_text f) (status_of f) (before c) (after c) status
+  pub input : KeepsInput c
+
+-- The run of the image under the ticks, up to the limit, with the console that the call has; and its report, which is written
+-- whatever the run came to. A fault of the console comes only where its count rose.
+pub record IsCarried (c : Call) (r : Asked) (image : ImageParts) (gaps : List ℕ) (status : ℕ) : Type 0 where
+  pub first : Standing
+  pub last : Standing
+  pub end : End
+  pub middle : Outside  -- what is written to, once the run is over
+  pub begins : Shows image first (start image gaps)
+  pub runs : Runs r.limit end first c.left c.written last c.left_after middle.written
+  pub files : middle.files ≡ c.files
+  pub later : IsLater (before c) middle
+  pub read_failed : end ≡ ReadFault → Rose c.input_faults c.input_faults_after
+  pub write_failed : end ≡ WriteFault → Rose c.faults middle.faults
+  pub reported : Reports r.report (report_text (names_of image.tasks) last end) (run_status end last.rules.tasks) middle (after c) status
+
+-- how the command ends
+pub data RunEnds (c : Call) (r : Asked) : ℕ → Type 0 where
+  -- memory was wanted
+  no_memory : NothingDone c → RunEnds c r 30
+  -- a file is refused in its turn
+  refused : {f : FaultLine} {status : ℕ} → Refuses c.files r f → IsRefusal c r f status → RunEnds c r status
+  -- or its read failed, by its own count
+  unread : {name : List ℕ} {status : ℕ} → IsInTurn c.files r name → Rose (c.reads name) (c.reads_after name) → IsRefusal c r (fault.Unread name) status → RunEnds c r status
+  -- both are accepted
+  carried : {image : ImageParts} {gaps : List ℕ} {status : ℕ} → HasImage c.files r.image image → HasTicks c.files r.ticks gaps → IsCarried c r image gaps status → RunEnds c r status

@@ -1,23 +1,11 @@
-//! The whole of the program over any store, source and sink.
+//! The commands that are built, over any store, input and output: [`top`] does what the words say, and answers the status.
+//!
+//! `specs/Top.antt` says what is promised of a call, `specs/Running.antt` what `run` does.
 #![tactic(auto)]
 
-mod accept;
-mod carry_out;
 mod command;
-mod compile;
-mod condition;
-mod image;
-mod machine;
-mod prepare;
-mod refusal;
-mod refuse;
-mod report;
-mod run;
-mod spell;
-mod words;
+mod reading;
+mod reporting;
+mod running;
 
 pub use command::top;
-pub use condition::Condition;
-pub use image::{Image, ImageTask};
-pub use refusal::Refusal;
-pub use rt_commands::{Command, WordFault, read_words};

@@ -1,5 +1,24 @@
-use Rattle.rt_top.proofs.Clauses.{headline}
+use Rattle.std.proofs.Common.{map, string_bytes, refl}
+use Rattle.rt_first_go.specs.GoWords.{go_of}
+use Rattle.rt_top.specs.Running.{asked}
+use Rattle.rt_top.proofs.Clauses.{went, ran, told, lent_go, lent_run, lent_other, no_command}
 use Rattle.rt_top.proofs.command.top.Goals as goal
 
-pub returns-clause-headline : goal.returns-clause-headline
-returns-clause-headline g c = headline _ _ c.obey.result c.obey.ensures
+pub returns-in_default : goal.returns-in_default
+returns-in_default g c =
+    told (map string_bytes c.args.words.now) _ c.tell.result (no_command (map string_bytes c.args.words.now) c.in_default.ensures.none)
+    (record { tells = c.tell.ensures (g.S.Store.files c.args.store.now) (g.S.Store.write_faults c.args.store.now); input = record { left = refl; faults = refl } })
+
+pub returns-in-Go : goal.returns-in-Go
+returns-in-Go g c =
+    let is = lent_go (map string_bytes c.args.words.now) c.in-Some.lent c.in-Go.timed (go_of c.go_words.result) c.in-Go.is c.go_words.ensures c.in-Some.ensures.command in
+    went (map string_bytes c.args.words.now) _ c.go.result (go_of c.go_words.result) is (record { left = refl; faults = refl }) (c.go.ensures (map string_bytes c.args.words.now) is)
+
+pub returns-in-Run : goal.returns-in-Run
+returns-in-Run g c =
+    ran (map string_bytes c.args.words.now) _ c.run.result (asked c.in-Run.timed) (lent_run (map string_bytes c.args.words.now) c.in-Some.lent c.in-Run.timed c.in-Run.is c.in-Some.ensures.command) c.run.ensures
+
+pub returns-in_default-lent : goal.returns-in_default-lent
+returns-in_default-lent g c =
+    told (map string_bytes c.args.words.now) _ c.tell-in_default-lent.result (lent_other (map string_bytes c.args.words.now) c.in-Some.lent c.in_default-lent.not-Go c.in_default-lent.not-Run c.in-Some.ensures.command)
+    (record { tells = c.tell-in_default-lent.ensures (g.S.Store.files c.args.store.now) (g.S.Store.write_faults c.args.store.now); input = record { left = refl; faults = refl } })

@@ -1,0 +1,15 @@
+pub mod Console
+pub mod Source
+pub mod Image
+pub mod Machine
+pub mod Faithful
+pub mod Code
+pub mod Words
+pub mod GoWords
+pub mod Report
+pub mod Outcome
+pub mod Ends
+pub mod Prepared
+pub mod Headline
+pub mod Accepting
+pub mod Running

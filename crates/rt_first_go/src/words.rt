@@ -1,0 +1,10 @@
+//! The words of `go`.
+
+/// The words of the command `go`.
+#[derive(Debug, Clone, Copy)]
+pub struct GoWords<'a> {
+    pub system: &'a str,
+    pub ticks: &'a str,
+    pub limit: u64,
+    pub name: &'a str,
+}

@@ -1,0 +1,124 @@
+-- What follows from an answer.
+use Rattle.std.proofs.Common.{◌≡◌, inl, inr, ℕ, ◌≤◌, Bool, true, false, if◌then◌else◌, List, [], ◌∷◌, refl, arith}
+use Rattle.std.specs.Prelude.{codes}
+use Rattle.rt_deeds.specs.Deeds.{Deed, Writes, Puts, Outside, IsLater, Performed}
+use Rattle.rt_deeds.proofs.Changes.{later}
+use Rattle.rt_report.specs.declared.fault.FaultLine.{FaultLine}
+use Rattle.rt_report.specs.Faults.{status_of}
+use Rattle.rt_report.specs.Reports.{run_status, any_failed}
+use Rattle.rt_rules.specs.declared.task.TaskRow.{TaskRow}
+use Rattle.rt_run.specs.declared.machine.End.{End}
+use Rattle.rt_run.specs.declared.machine.End.TheVariants.{Ended, Limit, Stalled, Fault, ReadFault, WriteFault}
+use Rattle.rt_words.specs.Causes.{Rose}
+use Rattle.rt_top.specs.Calls.{Call, before, after, NothingDone, Does, Answers, all_done, one_failed}
+use Rattle.rt_top.specs.Reading.{missing, too_long, RefusesImage, RefusesTicks}
+use Rattle.rt_top.specs.Running.{Asked, Refuses, RunEnds, no_memory, refused, unread, carried}
+use Rattle.rt_top.specs.Top.{HasReadFault, HasWriteFault}
+use Rattle.rt_top.proofs.Ends.{rose_on}
+use Rattle.rt_top.proofs.Leaves.{has_failed}
+
+pub record Caused (c : Call) (status : ℕ) : Type 0 where
+  pub ten : status ≡ 10 → ⊥
+  pub twenty : status ≡ 20 → HasReadFault c
+  pub twenty_one : status ≡ 21 → HasWriteFault c
+  pub thirty : status ≡ 30 → NothingDone c
+
+no : {X : Type 0} (n m : ℕ) → (n ≡ m → ⊥) → n ≡ m → X
+no n m h e = absurd (h e)
+
+module _ (c : Call) (n : ℕ) where
+  -- an answer that tells of no fault of this kind
+  abbrev IsPlain : ℕ → Type 0
+  IsPlain m = (m ≡ 10 → ⊥) × (m ≡ 20 → ⊥) × (m ≡ 21 → ⊥) × (m ≡ 30 → ⊥)
+
+  plain : IsPlain n → Caused c n
+  plain h = record { ten = h.0; twenty = no n 20 h.1; twenty_one = no n 21 h.2; thirty = no n 30 h.3 }
+
+  small : n ≤ 4 → Caused c n
+  small h = plain (λ e. omega (arith, h, e), λ e. omega (arith, h, e), λ e. omega (arith, h, e), λ e. omega (arith, h, e))
+
+  middling : 11 ≤ n → n ≤ 15 → Caused c n
+  middling l h = plain (λ e. omega (arith, l, e), λ e. omega (arith, h, e), λ e. omega (arith, h, e), λ e. omega (arith, h, e))
+
+  pub by_read : n ≡ 20 → HasReadFault c → Caused c n
+  by_read e h = record { ten = λ k. omega (arith, e, k); twenty = λ k. h; twenty_one = λ k. absurd (omega (arith, e, k)); thirty = λ k. absurd (omega (arith, e, k)) }
+
+  pub by_write : n ≡ 21 → HasWriteFault c → Caused c n
+  by_write e h = record { ten = λ k. omega (arith, e, k); twenty = λ k. absurd (omega (arith, e, k)); twenty_one = λ k. h; thirty = λ k. absurd (omega (arith, e, k)) }
+
+  pub by_memory : n ≡ 30 → NothingDone c → Caused c n
+  by_memory e h = record { ten = λ k. omega (arith, e, k); twenty = λ k. absurd (omega (arith, e, k)); twenty_one = λ k. absurd (omega (arith, e, k)); thirty = λ k. h }
+
+rose_from : (a b d : ℕ) → a ≤ b → Rose b d → Rose a d
+rose_from a b d h k = grind arith
+
+-- one deed that failed
+deed_failed : (c : Call) (d : Deed) (m : Outside) → IsLater (before c) m → Performed (d ∷ []) m (after c) false → HasWriteFault c
+deed_failed c (Writes name text) m l h = HasWriteFault.write name (rose_from (c.writes name) (m.writes name) (c.writes_after name) (l.writes name) ((has_failed (Writes name text) m (after c) h).0))
+deed_failed c (Puts text) m l h = HasWriteFault.output (rose_from c.faults m.faults c.faults_after l.faults ((has_failed (Puts text) m (after c) h).0))
+
+pub done_or_failed : (c : Call) (d : Deed) (n status : ℕ) (m : Outside) → IsLater (before c) m → Does d n m (after c) status → Caused c n → Caused c status
+done_or_failed c d n status m l h k = by h.all status h.performed h.answer
+  where
+    by : (all : Bool) (s : ℕ) → Performed (d ∷ []) m (after c) all → Answers n all s → Caused c s
+    by true s p all_done = k
+    by false s p one_failed = by_write c 21 refl (deed_failed c d m l p)
+
+same : (a : Outside) → IsLater a a
+same a = record { writes = λ n. omega arith; faults = omega arith }
+
+-- ---- refusals
+
+image_refused : (c : Call) (name : List ℕ) (f : FaultLine) → RefusesImage c.files name f → Caused c (status_of f)
+image_refused c name f (RefusesImage.no_file (missing h)) = by_read c 20 refl (HasReadFault.missing name h)
+image_refused c name f (RefusesImage.no_file (too_long h)) = middling c 15 (omega arith) (omega arith)
+image_refused c name f (RefusesImage.no_image h k) = middling c 15 (omega arith) (omega arith)
+
+ticks_refused : (c : Call) (name : List ℕ) (f : FaultLine) → RefusesTicks c.files name f → Caused c (status_of f)
+ticks_refused c name f (RefusesTicks.no_file (missing h)) = by_read c 20 refl (HasReadFault.missing name h)
+ticks_refused c name f (RefusesTicks.no_file (too_long h)) = middling c 13 (omega arith) (omega arith)
+ticks_refused c name f (RefusesTicks.bad_line h k) = middling c 13 (omega arith) (omega arith)
+
+is_refused : (c : Call) (r : Asked) (f : FaultLine) → Refuses c.files r f → Caused c (status_of f)
+is_refused c r f (inl h) = image_refused c r.image f h
+is_refused c r f (inr (i, has, h)) = ticks_refused c r.ticks f h
+
+-- ---- runs
+
+run_ended : (c : Call) (end : End) (ts : List TaskRow) → (end ≡ ReadFault → HasReadFault c) → (end ≡ WriteFault → HasWriteFault c) → Caused c (run_status end ts)
+run_ended c Ended ts r w = by (any_failed ts)
+  where
+    by : (b : Bool) → Caused c (if b then 1 else 0)
+    by true = small c 1 (omega arith)
+    by false = small c 0 (omega arith)
+run_ended c Limit ts r w = small c 2 (omega arith)
+run_ended c Stalled ts r w = small c 3 (omega arith)
+run_ended c (Fault i k at) ts r w = small c 4 (omega arith)
+run_ended c ReadFault ts r w = by_read c 20 refl (r refl)
+run_ended c WriteFault ts r w = by_write c 21 refl (w refl)
+
+later_after : (c : Call) (d : Deed) (n status : ℕ) (m : Outside) → Does d n m (after c) status → IsLater m (after c)
+later_after c d n status m h = later (d ∷ []) m (after c) h.all h.performed
+
+pub run_caused : (c : Call) (r : Asked) (status : ℕ) → RunEnds c r status → Caused c status
+run_caused c r status (no_memory h) = by_memory c 30 refl h
+run_caused c r status (refused {f = f} h k) = done_or_failed c _ (status_of f) status (before c) (same (before c)) k.reported (is_refused c r f h)
+run_caused c r status (unread {name = name} turn rose k) = done_or_failed c _ 20 status (before c) (same (before c)) k.reported (by_read c 20 refl (HasReadFault.read name rose))
+run_caused c r status (carried has ticks k) =
+    done_or_failed c _ (run_status k.end ((k.last).rules).tasks) status k.middle k.later k.reported
+    (run_ended c k.end ((k.last).rules).tasks (λ e. HasReadFault.input (k.read_failed e)) (λ e. HasWriteFault.output (rose_on c.faults (k.middle).faults c.faults_after (k.write_failed e) (later_after c _ _ status k.middle k.reported).faults)))
+
+-- ---- words that no command has
+
+-- what follows where the answer is 10 or 21
+pub record NotTen (c : Call) (status : ℕ) : Type 0 where
+  pub twenty : status ≡ 20 → HasReadFault c
+  pub twenty_one : status ≡ 21 → HasWriteFault c
+  pub thirty : status ≡ 30 → NothingDone c
+
+pub ten_only : (c : Call) (status : ℕ) → Does (Puts (codes "FAULT 10\n")) 10 (before c) (after c) status → NotTen c status
+ten_only c status h = by h.all status h.performed h.answer
+  where
+    by : (all : Bool) (s : ℕ) → Performed (Puts (codes "FAULT 10\n") ∷ []) (before c) (after c) all → Answers 10 all s → NotTen c s
+    by true s p all_done = record { twenty = λ e. absurd (omega (arith, e)); twenty_one = λ e. absurd (omega (arith, e)); thirty = λ e. absurd (omega (arith, e)) }
+    by false s p one_failed = record { twenty = λ e. absurd (omega (arith, e)); twenty_one = λ e. deed_failed c (Puts (codes "FAULT 10\n")) (before c) (same (before c)) p; thirty = λ e. absurd (omega (arith, e)) }

@@ -1,0 +1,57 @@
+-- What the program promises of a call, whatever its words.
+use Rattle.std.specs.Prelude.{◌≡◌, ℕ, List, codes}
+use Rattle.rt_commands.specs.Commands.{IsCommand}
+use Rattle.rt_commands.specs.declared.command.Command.{Command}
+use Rattle.rt_commands.specs.declared.command.Command.TheVariants as command
+use Rattle.rt_commands.specs.declared.lent.TimedWords.{TimedWords}
+use Rattle.rt_first_go.specs.Headline as go
+use Rattle.rt_first_go.specs.Words.{Go, IsGo}
+use Rattle.rt_outside.specs.Files.{IsTold, Lacks}
+use Rattle.rt_words.specs.Causes.{Rose}
+use Rattle.rt_top.specs.Calls.{Call, before, after, without_input, KeepsInput, NothingDone, Tells}
+use Rattle.rt_top.specs.Running.{Asked, IsRun, RunEnds}
+
+-- what `go` is asked by these words
+abbrev pub asked_go : TimedWords → Go
+asked_go w = record { system = w.first.now; ticks = w.second.now; limit = w.limit; name = w.last.now }
+
+-- the commands that are built
+abbrev pub IsBuilt : Command → Type 0
+IsBuilt (command.Go system ticks limit name) = Unit {0}
+IsBuilt (command.Run image ticks limit report) = Unit {0}
+IsBuilt _ = ⊥
+
+-- none of them has these words
+abbrev pub IsNoCommand : List (List ℕ) → Type 0
+IsNoCommand words = (c : Command) → IsBuilt c → IsCommand words c → ⊥
+
+-- words that no command has are answered by the fault line, which is put
+pub record RefusesWords (c : Call) (status : ℕ) : Type 0 where
+  pub tells : Tells (codes "FAULT 10\n") 10 (before c) (after c) status
+  pub input : KeepsInput c
+
+-- `go` keeps the promises of systems of the first form, and takes nothing of the input
+pub record Goes (words : List (List ℕ)) (c : Call) (status : ℕ) : Type 0 where
+  pub headline : go.Headline words (without_input c) status
+  pub input : KeepsInput c
+
+-- a file is missing, or the count of a file's reads rose, or that of the input
+pub data HasReadFault (c : Call) : Type 0 where
+  missing : (name : List ℕ) → IsTold c.files (Lacks name) → HasReadFault c
+  read : (name : List ℕ) → Rose (c.reads name) (c.reads_after name) → HasReadFault c
+  input : Rose c.input_faults c.input_faults_after → HasReadFault c
+
+-- the count of a file's writes rose, or that of the output
+pub data HasWriteFault (c : Call) : Type 0 where
+  write : (name : List ℕ) → Rose (c.writes name) (c.writes_after name) → HasWriteFault c
+  output : Rose c.faults c.faults_after → HasWriteFault c
+
+pub record Headline (words : List (List ℕ)) (c : Call) (status : ℕ) : Type 0 where
+  pub goes : (g : Go) → IsGo words g → Goes words c status
+  pub runs : (r : Asked) → IsRun words r → RunEnds c r status
+  pub none : IsNoCommand words → RefusesWords c status
+  -- each of these answers has its cause
+  pub ten : status ≡ 10 → IsNoCommand words
+  pub twenty : status ≡ 20 → HasReadFault c
+  pub twenty_one : status ≡ 21 → HasWriteFault c
+  pub thirty : status ≡ 30 → NothingDone c

@@ -1,0 +1,67 @@
+//! What a command leaves: a file or a text, and the status.
+
+ghost use Rattle.std.specs.Prelude.{◌≡◌, ◌≤◌, ◌⊎◌, ℕ, List, Option};
+ghost use Rattle.rt_outside.specs.Files.{Files};
+ghost use Rattle.rt_report.specs.Faults.{status_of, refusal_text};
+ghost use Rattle.rt_top.specs.Calls.{outside, IsKept, Reports, Tells};
+
+use rt_deeds::{Deed, perform};
+use rt_outside::{Sink, Store, put_all};
+use rt_report::{FaultLine, fault_status, refusal_report};
+use rt_words::Text;
+use std::alloc::Global;
+
+/// The status where a file or the output can't be written.
+const UNWRITTEN: u8 = 21;
+
+/// The status where memory is wanted.
+pub const NO_MEMORY: u8 = 30;
+
+/// Writes a report, and answers this status where that succeeds.
+pub fn write_report<S: Store, O: Sink>(
+    store: &mut S,
+    output: &mut O,
+    name: &str,
+    text: Text,
+    status: u8,
+) -> u8
+    ensures reports { Reports name.now text.items status (outside (S.files store.old) (S.write_faults store.old) (O.written output.old) (O.faults output.old)) (outside (S.files store.new) (S.write_faults store.new) (O.written output.new) (O.faults output.new)) result }
+    ensures reads_later { (other : List ℕ) → S.read_faults store.old other ≤ S.read_faults store.new other }
+{
+    let deeds = [Deed::Write {
+        name,
+        bytes: text.into_list(),
+    }];
+    match perform(store, output, &deeds) {
+        Ok(()) => status,
+        Err(_) => UNWRITTEN,
+    }
+}
+
+/// Puts a text, and answers this status where that succeeds.
+pub fn tell<O: Sink>(output: &mut O, text: &[u8], status: u8) -> u8
+    ensures { (files : Option Files) (writes : List ℕ → ℕ) → Tells text.now status (outside files writes (O.written output.old) (O.faults output.old)) (outside files writes (O.written output.new) (O.faults output.new)) result }
+{
+    match put_all(output, text) {
+        Ok(()) => status,
+        Err(_) => UNWRITTEN,
+    }
+}
+
+/// Writes the report of a refusal.
+pub fn refuse<S: Store, O: Sink>(
+    alloc: Global,
+    store: &mut S,
+    output: &mut O,
+    name: &str,
+    fault: &FaultLine,
+) -> u8
+    ensures refused { ((result ≡ 30) × IsKept (outside (S.files store.old) (S.write_faults store.old) (O.written output.old) (O.faults output.old)) (outside (S.files store.new) (S.write_faults store.new) (O.written output.new) (O.faults output.new)))
+        ⊎ Reports name.now (refusal_text fault.now) (status_of fault.now) (outside (S.files store.old) (S.write_faults store.old) (O.written output.old) (O.faults output.old)) (outside (S.files store.new) (S.write_faults store.new) (O.written output.new) (O.faults output.new)) result }
+    ensures reads_later { (other : List ℕ) → S.read_faults store.old other ≤ S.read_faults store.new other }
+{
+    match refusal_report(alloc, fault) {
+        Ok(text) => write_report(store, output, name, text, fault_status(fault)),
+        Err(_) => NO_MEMORY,
+    }
+}
