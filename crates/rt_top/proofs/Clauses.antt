@@ -15,9 +15,9 @@ use Rattle.rt_first_go.specs.Outcome.{Refuses, IsInTurn, system_missing, ticks_m
 use Rattle.rt_first_go.specs.Words.{Go, IsGo, image_name, report_name}
 use Rattle.rt_outside.specs.Files.{Files, IsTold, Lacks}
 use Rattle.rt_words.specs.Causes.{Rose}
-use Rattle.rt_top.specs.Calls.{Call, without_input, KeepsInput}
+use Rattle.rt_top.specs.Calls.{Call, without_input, KeepsInput, Says}
 use Rattle.rt_top.specs.Running.{Asked, asked, IsRun, RunEnds}
-use Rattle.rt_top.specs.Top.{asked_go, IsBuilt, IsNoCommand, RefusesWords, HasReadFault, HasWriteFault, Headline}
+use Rattle.rt_top.specs.Top.{asked_go, IsBuilt, IsNoCommand, words_line, HasReadFault, HasWriteFault, Headline}
 use Rattle.rt_top.proofs.Causes.{run_caused, ten_only}
 
 abbrev go_command : Go → Command
@@ -86,7 +86,7 @@ module _ (words : List (List ℕ)) (c : Call) (status : ℕ) where
         thirty = k.thirty;
       }
 
-  pub told : IsNoCommand words → RefusesWords c status → Headline words c status
+  pub told : IsNoCommand words → Says words_line 10 c status → Headline words c status
   told none h =
       let k = ten_only c status h.tells in record {
         goes = λ g is. absurd (none (go_command g) tt is);

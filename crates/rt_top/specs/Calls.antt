@@ -101,3 +101,8 @@ Reports name text done a b status = Does (Writes name text) done a b status
 -- this text is put
 abbrev pub Tells : List ℕ → ℕ → Outside → Outside → ℕ → Type 0
 Tells text done a b status = Does (Puts text) done a b status
+
+-- a text is put, and nothing else is done
+pub record Says (text : List ℕ) (done : ℕ) (c : Call) (status : ℕ) : Type 0 where
+  pub tells : Tells text done (before c) (after c) status
+  pub input : KeepsInput c

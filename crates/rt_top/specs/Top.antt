@@ -8,7 +8,7 @@ use Rattle.rt_first_go.specs.Headline as go
 use Rattle.rt_first_go.specs.Words.{Go, IsGo}
 use Rattle.rt_outside.specs.Files.{IsTold, Lacks}
 use Rattle.rt_words.specs.Causes.{Rose}
-use Rattle.rt_top.specs.Calls.{Call, before, after, without_input, KeepsInput, NothingDone, Tells}
+use Rattle.rt_top.specs.Calls.{Call, without_input, KeepsInput, NothingDone, Says}
 use Rattle.rt_top.specs.Running.{Asked, IsRun, RunEnds}
 
 -- what `go` is asked by these words
@@ -25,10 +25,9 @@ IsBuilt _ = ⊥
 abbrev pub IsNoCommand : List (List ℕ) → Type 0
 IsNoCommand words = (c : Command) → IsBuilt c → IsCommand words c → ⊥
 
--- words that no command has are answered by the fault line, which is put
-pub record RefusesWords (c : Call) (status : ℕ) : Type 0 where
-  pub tells : Tells (codes "FAULT 10\n") 10 (before c) (after c) status
-  pub input : KeepsInput c
+-- the fault line of words that no command has
+abbrev pub words_line : List ℕ
+words_line = codes "FAULT 10\n"
 
 -- `go` keeps the promises of systems of the first form, and takes nothing of the input
 pub record Goes (words : List (List ℕ)) (c : Call) (status : ℕ) : Type 0 where
@@ -49,7 +48,7 @@ pub data HasWriteFault (c : Call) : Type 0 where
 pub record Headline (words : List (List ℕ)) (c : Call) (status : ℕ) : Type 0 where
   pub goes : (g : Go) → IsGo words g → Goes words c status
   pub runs : (r : Asked) → IsRun words r → RunEnds c r status
-  pub none : IsNoCommand words → RefusesWords c status
+  pub none : IsNoCommand words → Says words_line 10 c status
   -- each of these answers has its cause
   pub ten : status ≡ 10 → IsNoCommand words
   pub twenty : status ≡ 20 → HasReadFault c

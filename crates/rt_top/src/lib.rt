@@ -9,3 +9,4 @@ mod reporting;
 mod running;
 
 pub use command::top;
+pub use reporting::tell;

@@ -1,15 +1,14 @@
 ghost use Rattle.std.specs.Prelude.{◌≡◌, ◌≢◌, ◌⊎◌, ℕ, List, Option, map, drop, string_bytes, IfOk, IfErr};
 ghost use Rattle.std.specs.IoError.{error_kind};
 ghost use Rattle.std.specs.Vec.Iter.{into_iter_items};
-ghost use Rattle.rt_top.specs.Ends.{the_call};
-ghost use Rattle.rt_top.specs.Headline.{NothingDone};
-ghost use Rattle.rt_top.specs.Report.{words_line};
-ghost use Rattle.rtl2.specs.Answers.{Answers, Tells};
+ghost use Rattle.rt_run.specs.Inputs.{feed};
+ghost use Rattle.rt_top.specs.Calls.{the_call, NothingDone, Says};
+ghost use Rattle.rt_top.specs.Top.{words_line};
+ghost use Rattle.rtl2.specs.Answers.{Answers};
 
-use crate::tell::tell;
 use crate::texts::{USAGE, VERSION};
 use rt_outside::{Sink, Source, Store};
-use rt_top::top;
+use rt_top::{tell, top};
 use std::alloc::{AllocError, Global};
 use std::env::Args;
 use std::io;
@@ -35,15 +34,18 @@ pub fn run<R: Eprint, S: Store, I: Source, O: Sink>(
         (S.read_faults store.old) (S.read_faults store.new)
         (S.write_faults store.old) (S.write_faults store.new)
         (O.written output.old) (O.written output.new)
-        (O.faults output.old) (O.faults output.new) in
-        NothingDone c result ⊎ Answers (map string_bytes (drop 1 (into_iter_items all))) c result) }
+        (O.faults output.old) (O.faults output.new)
+        (feed (I.left input.old) (I.ended input.old)) (feed (I.left input.new) (I.ended input.new))
+        (I.faults input.old) (I.faults input.new) in
+        ((result ≡ 30) × NothingDone c) ⊎ Answers (map string_bytes (drop 1 (into_iter_items all))) c result) }
     ensures no_words { IfErr args (λ e. let c = the_call (S.files store.old) (S.files store.new)
         (S.read_faults store.old) (S.read_faults store.new)
         (S.write_faults store.old) (S.write_faults store.new)
         (O.written output.old) (O.written output.new)
-        (O.faults output.old) (O.faults output.new) in
-        NothingDone c result ⊎ ((error_kind e ≢ ErrorKind.OutOfMemory) × Tells words_line 10 c result)) }
-    ensures input { input.new ≡ input.old }
+        (O.faults output.old) (O.faults output.new)
+        (feed (I.left input.old) (I.ended input.old)) (feed (I.left input.new) (I.ended input.new))
+        (I.faults input.old) (I.faults input.new) in
+        ((result ≡ 30) × NothingDone c) ⊎ ((error_kind e ≢ ErrorKind.OutOfMemory) × Says words_line 10 c result)) }
 {
     match args {
         Ok(args) => match words_of(alloc, args) {
@@ -52,7 +54,7 @@ pub fn run<R: Eprint, S: Store, I: Source, O: Sink>(
         },
         Err(error) => match error.kind() {
             ErrorKind::OutOfMemory => NO_MEMORY,
-            _ => with_usage(rt, tell(output, "FAULT 10\n", WRONG_WORDS)),
+            _ => with_usage(rt, tell(output, b"FAULT 10\n", WRONG_WORDS)),
         },
     }
 }
@@ -74,17 +76,18 @@ pub fn answer<R: Eprint, S: Store, I: Source, O: Sink>(
     input: &mut I,
     output: &mut O,
 ) -> u8
-    ensures answers { Answers (map string_bytes words.now) (the_call (S.files store.old) (S.files store.new)
+    ensures { Answers (map string_bytes words.now) (the_call (S.files store.old) (S.files store.new)
         (S.read_faults store.old) (S.read_faults store.new)
         (S.write_faults store.old) (S.write_faults store.new)
         (O.written output.old) (O.written output.new)
-        (O.faults output.old) (O.faults output.new)) result }
-    ensures input { input.new ≡ input.old }
+        (O.faults output.old) (O.faults output.new)
+        (feed (I.left input.old) (I.ended input.old)) (feed (I.left input.new) (I.ended input.new))
+        (I.faults input.old) (I.faults input.new)) result }
 {
     if let [word] = words {
         match word.as_str() {
-            "--help" => return tell(output, USAGE, DONE),
-            "--version" => return tell(output, VERSION, DONE),
+            "--help" => return tell(output, USAGE.as_bytes(), DONE),
+            "--version" => return tell(output, VERSION.as_bytes(), DONE),
             _ => {}
         }
     }

@@ -6,7 +6,6 @@ mod answer;
 mod console;
 mod errors;
 mod files;
-mod tell;
 mod texts;
 
 use answer::run;

@@ -5,9 +5,10 @@ pub const VERSION: &str = "rtl2 0.1\n";
 pub const USAGE: &str = "\
 rtl2 compiles RTL/2 modules for the PDP-11, links them and runs the image under its supervisor.
 
-  rtl2 go SYSTEM TICKS LIMIT NAME   compile, link, write NAME.IMG, run, write NAME.RPT
-  rtl2 --help                       this text
-  rtl2 --version                    the version
+  rtl2 go SYSTEM TICKS LIMIT NAME      compile, link, write NAME.IMG, run, write NAME.RPT
+  rtl2 run IMAGE TICKS LIMIT REPORT    run an image, and write the report of the run
+  rtl2 --help                          this text
+  rtl2 --version                       the version
 
 SYSTEM names the modules and tasks, TICKS the clock's ticks, LIMIT is the most instructions to run
 (1 to 10 digits, up to 4000000000). Standard input and output are the console of the run.
