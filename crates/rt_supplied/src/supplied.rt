@@ -1,6 +1,6 @@
 //! One variant for each supplied brick.
 
-ghost use Rattle.std.specs.Prelude.{◌≡◌};
+ghost use Rattle.std.specs.Prelude.{◌≡◌, ◌≤◌, ◌↔◌, IsTrue};
 ghost use Rattle.rt_supplied.specs.Bricks as bricks;
 
 /// A supplied brick.
@@ -106,6 +106,13 @@ impl Supplied {
             Supplied::Rrerr => "DATA(LABEL ERL,INT ERN,PROC(INT) ERP)",
             Supplied::Rrsio => "DATA(PROC() BYTE IN,PROC(BYTE) OUT)",
         }
+    }
+
+    /// Whether the brick is a procedure; the others are data bricks.
+    pub fn is_procedure(self) -> bool
+        ensures { IsTrue result ↔ (bricks.number_of self ≤ 10) }
+    {
+        self.number() <= 10
     }
 
     /// The brick of this name, where one is supplied.

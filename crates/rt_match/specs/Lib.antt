@@ -1,0 +1,4 @@
+pub mod Matching
+pub mod Shapes
+pub mod Signatures
+pub mod Walking
