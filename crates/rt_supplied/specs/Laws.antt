@@ -1,6 +1,6 @@
 -- Laws of the supplied bricks.
 use Rattle.std.specs.Prelude.{◌≡◌, ℕ, suc, List, map, take, Some, slice_get}
-use Rattle.rt_supplied.specs.Bricks.{supplied_names, supplied_bricks, brick_numbered, is_of, number_of, name_of, text_of, supplied_by}
+use Rattle.rt_supplied.specs.Bricks.{SuppliedBrick, supplied_names, supplied_bricks, brick_numbered, is_of, number_of, name_of, text_of, supplied_by}
 use Rattle.rt_supplied.specs.declared.supplied.Supplied.{Supplied}
 use Rattle.rt_supplied.specs.declared.supplied.TheConstants.{SUPPLIED}
 
@@ -23,3 +23,7 @@ AreFound = (s : Supplied) → supplied_by (name_of s) ≡ Some s
 -- what is found by a name has it
 abbrev pub AreOfTheirNames : Type 0
 AreOfTheirNames = (name : List ℕ) (s : Supplied) → supplied_by name ≡ Some s → name_of s ≡ name
+
+-- what has a number is found by its name, and is that brick
+abbrev pub AreNumbered : Type 0
+AreNumbered = (k : ℕ) (b : SuppliedBrick) → brick_numbered k ≡ Some b → (s : Supplied) × (supplied_by b.name ≡ Some s) × (number_of s ≡ k) × (is_of (name_of s) (text_of s) ≡ b)
