@@ -1,0 +1,4 @@
+pub mod Asking
+pub mod Noting
+pub mod Walking
+pub mod Whose

@@ -1,6 +1,6 @@
 //! Bricks that differ from that for which they ask.
 
-ghost use Rattle.std.specs.Prelude.{◌≡◌, ◌+◌, ◌<◌, ◌≤◌, ◌↔◌, ℕ, nat_le, length, MatchOption, IfOk, OnOk, IfErr, IsTrue};
+ghost use Rattle.std.specs.Prelude.{◌≡◌, suc, ◌<◌, ◌≤◌, ◌↔◌, ℕ, nat_le, length, MatchOption, IfOk, OnOk, IfErr, IsTrue};
 ghost use Rattle.rt_supplied.specs.Bricks.{number_of};
 ghost use Rattle.rt_match.specs.Matching.{Signature, supplied_sort, HasBrick, IsEntry, Lacks, Differs, Never, Fails};
 ghost use Rattle.rt_match.specs.Signatures.{signature, sort_of, system_of};
@@ -138,8 +138,8 @@ fn check_module<'o>(
     requires there { at < length objects.now }
     requires known { Known (system_of objects.now) entries.now }
     requires found { Never (system_of objects.now) (Lacks (system_of objects.now)) }
-    requires clear { Clear (system_of objects.now) (Differs (system_of objects.now)) (at + 1) 0 }
-    ensures ok { OnOk result (Clear (system_of objects.now) (Differs (system_of objects.now)) (at + 2) 0) }
+    requires clear { Clear (system_of objects.now) (Differs (system_of objects.now)) (suc at) 0 }
+    ensures ok { OnOk result (Clear (system_of objects.now) (Differs (system_of objects.now)) (suc (suc at)) 0) }
     ensures err { IfErr result (Fails (system_of objects.now)) }
 {
     let parts = objects[at].parts();

@@ -1,6 +1,6 @@
 //! The bindings of a system.
 
-ghost use Rattle.std.specs.Prelude.{◌≡◌, ◌+◌, ◌<◌, ◌≤◌, ℕ, List, Some, length, IfOk, IfErr};
+ghost use Rattle.std.specs.Prelude.{◌≡◌, suc, ◌<◌, ◌≤◌, ℕ, List, Some, length, IfOk, IfErr};
 ghost use Rattle.rt_match.specs.Matching.{Signature, module_of, Lacks, Differs, IsUnsupplied, Never, Fails, Match, IsBound, Correspond, AreBound};
 ghost use Rattle.rt_match.specs.Signatures.{system_of};
 ghost use Rattle.rt_match.specs.Walking as walking;
@@ -41,8 +41,8 @@ fn bind_module<'o>(
     requires there { at < length objects.now }
     requires known { Known (system_of objects.now) entries.now }
     requires bindable { Bindable (system_of objects.now) }
-    requires clear { Clear (system_of objects.now) (IsUnsupplied (system_of objects.now)) (at + 1) 0 }
-    ensures ok { IfOk result (Binds (system_of objects.now) (at + 1)) }
+    requires clear { Clear (system_of objects.now) (IsUnsupplied (system_of objects.now)) (suc at) 0 }
+    ensures ok { IfOk result (Binds (system_of objects.now) (suc at)) }
     ensures err { IfErr result (Fails (system_of objects.now)) }
 {
     let bricks = objects[at].parts().bricks.as_slice();

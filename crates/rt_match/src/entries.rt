@@ -1,6 +1,6 @@
 //! The ENT bricks of a system by their names.
 
-ghost use Rattle.std.specs.Prelude.{◌≡◌, ◌+◌, ◌<◌, ◌≤◌, ℕ, List, true, not, is_some, Some, length, if◌then◌else◌, IfOk, OnOk, IfErr};
+ghost use Rattle.std.specs.Prelude.{◌≡◌, suc, ◌<◌, ◌≤◌, ℕ, List, true, not, is_some, Some, length, if◌then◌else◌, IfOk, OnOk, IfErr};
 ghost use Rattle.std.specs.Str.{bytes_eq};
 ghost use Rattle.rt_match.specs.Matching.{Fails};
 ghost use Rattle.rt_match.specs.Signatures.{system_of};
@@ -58,8 +58,8 @@ fn note_module<'o>(
 ) -> Result<(), MatchFault>
     requires few { length objects.now ≤ 64 }
     requires there { at < length objects.now }
-    requires noted { Noted (system_of objects.now) entries.old (at + 1) 0 }
-    ensures ok { OnOk result (Noted (system_of objects.now) entries.new (at + 2) 0) }
+    requires noted { Noted (system_of objects.now) entries.old (suc at) 0 }
+    ensures ok { OnOk result (Noted (system_of objects.now) entries.new (suc (suc at)) 0) }
     ensures err { IfErr result (Fails (system_of objects.now)) }
 {
     let bricks = objects[at].parts().bricks.as_slice();

@@ -5,7 +5,7 @@ use Rattle.std.specs.Str.{bytes_eq}
 use Rattle.std.proofs.lemmas.Option.{slice_get_within}
 use Rattle.std.proofs.lemmas.Slice.Eq.{bytes_eq-Decides}
 use Rattle.rt_supplied.specs.Bricks.{SuppliedBrick, supplied_bricks, is_of, number_of, name_of, text_of, supplied_by}
-use Rattle.rt_supplied.specs.Laws.{AreFound, AreOfTheirNames, AreNumbered}
+use Rattle.rt_supplied.specs.Laws.{NumbersAgree, AreFound, AreOfTheirNames, AreNumbered}
 use Rattle.rt_supplied.specs.declared.supplied.Supplied.{Supplied}
 use Rattle.rt_supplied.specs.declared.supplied.Supplied.TheVariants as brick
 use Rattle.rt_supplied.specs.declared.supplied.TheConstants.{SUPPLIED}
@@ -57,3 +57,17 @@ are_numbered (suc (suc (suc (suc (suc (suc (suc (suc (suc (suc (suc (suc (suc k)
   where
     past : (k : ℕ) (b : SuppliedBrick) → slice_get supplied_bricks (suc (suc (suc (suc (suc (suc (suc (suc (suc (suc (suc (suc k)))))))))))) ≡ Some b → ⊥
     past k b e = let h : suc (suc (suc (suc (suc (suc (suc (suc (suc (suc (suc (suc k))))))))))) < 12 = slice_get_within supplied_bricks _ b e in omega arith
+
+pub numbers_agree : NumbersAgree
+numbers_agree brick.Rrin = (refl, (0, refl, refl))
+numbers_agree brick.Rrout = (refl, (1, refl, refl))
+numbers_agree brick.Delay = (refl, (2, refl, refl))
+numbers_agree brick.Wait = (refl, (3, refl, refl))
+numbers_agree brick.Signal = (refl, (4, refl, refl))
+numbers_agree brick.Secure = (refl, (5, refl, refl))
+numbers_agree brick.Release = (refl, (6, refl, refl))
+numbers_agree brick.Clock = (refl, (7, refl, refl))
+numbers_agree brick.Taskno = (refl, (8, refl, refl))
+numbers_agree brick.Rrgel = (refl, (9, refl, refl))
+numbers_agree brick.Rrerr = (refl, (10, refl, refl))
+numbers_agree brick.Rrsio = (refl, (11, refl, refl))
