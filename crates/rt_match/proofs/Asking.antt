@@ -1,5 +1,5 @@
 -- For what bricks ask, by the map of names.
-use Rattle.std.proofs.Common.{◌≡◌, ◌⊎◌, ◌<◌, ℕ, suc, Bool, true, false, not, is_some, ◌&&◌, List, [], ◌∷◌, ◌++◌, length, take, Option, Some, None, option_map, slice_get, MatchOption, refl, sym, ap, ◌∙◌, subst, inl, inr, arith}
+use Rattle.std.proofs.Common.{◌≡◌, ◌⊎◌, ◌<◌, ℕ, suc, Bool, true, false, not, is_some, ◌&&◌, List, [], ◌∷◌, ◌++◌, length, take, Option, Some, None, option_map, slice_get, MatchOption, Result, Ok, Err, IfOk, refl, sym, ap, ◌∙◌, subst, inl, inr, arith}
 use Rattle.std.proofs.Math.Seq.{take-suc, take-length}
 use Rattle.std.proofs.lemmas.Bool.{cases_order}
 use Rattle.std.proofs.lemmas.Option.{slice_get_within, get_or_from_slice_get}
@@ -14,7 +14,7 @@ use Rattle.rt_match.specs.declared.bindings.Bound.{Bound}
 use Rattle.rt_match.specs.declared.bindings.Bound.TheVariants as bound
 use Rattle.rt_match.specs.declared.entries.Entry.{Entry}
 use Rattle.rt_match.specs.Matching as matching
-use Rattle.rt_match.specs.Matching.{Kind, Signature, System, module_of, AreAlike, supplied_signature, IsSupplied, HasBrick, IsEntry, AsksFor, AsksInVain, Duplicates, Lacks, IsUnsupplied, Never, IsBound, Correspond}
+use Rattle.rt_match.specs.Matching.{Kind, Signature, System, module_of, AreAlike, supplied_signature, IsSupplied, HasBrick, IsEntry, AsksFor, AsksInVain, Duplicates, Lacks, DiffersFrom, Differs, IsUnsupplied, Never, IsBound, Correspond}
 use Rattle.rt_match.specs.Signatures.{signature, whose}
 use Rattle.rt_match.specs.Walking.{Names, entry_in, Known, is_ext, is_missing, bound_by, binding, Compared, IsNoted, IsAlike, IsUnlike, supplied_as, Bindable}
 use Rattle.rt_match.proofs.Whose.{ext_whose, ext_is}
@@ -251,3 +251,29 @@ correspond_more R xs k ys x y e h r =
 
 pub correspond_all : {A B : Type 0} (R : A → B → Type 0) (xs : List A) (k : ℕ) (ys : List B) → k ≡ length xs → Correspond R (take k xs) ys → Correspond R xs ys
 correspond_all R xs k ys e h = subst (λ zs. Correspond R zs ys) (ap (λ n. take n xs) e ∙ take-length xs) h
+
+-- ---- answers that may want memory
+
+pub ok_map : {A E : Type 0} (P Q : A → Type 0) (r : Result A E) → ((x : A) → P x → Q x) → IfOk r P → IfOk r Q
+ok_map P Q (Ok x) f h = f x h
+ok_map P Q (Err e) f h = tt
+
+-- ---- the bricks of cases
+
+pub lacks_is : (sys : System) (m b : ℕ) (s : Signature) → Lacks sys m b s → HasBrick sys m b s
+lacks_is sys m b s h = h.is
+
+pub differs_is : (sys : System) (m b : ℕ) (s : Signature) → Differs sys m b s → HasBrick sys m b s
+differs_is sys m b s h = h.1.is
+
+pub unsupplied_is : (sys : System) (m b : ℕ) (s : Signature) → IsUnsupplied sys m b s → HasBrick sys m b s
+unsupplied_is sys m b s h = h.is
+
+-- a brick that is unlike what it asks for is a case, and one that is like all that it asks for is none
+pub unlike_here : (sys : System) (m b : ℕ) (s : Signature) (text : List ℕ) → HasBrick sys m b s → IsUnlike sys s text → (e : Signature) × DiffersFrom sys m b s e × (text ≡ e.mode)
+unlike_here sys m b s text has u = (u.other, record { is = has; to = u.to; asks = u.asks; differ = u.differ }, u.its)
+
+pub alike_not : (sys : System) (m b : ℕ) (s : Signature) → HasBrick sys m b s → IsAlike sys s → (t : Signature) → Differs sys m b t → ⊥
+alike_not sys m b s has like t d =
+    let same : s ≡ t = has_one sys m b s t has d.1.is in
+    d.1.differ (subst (λ (x : Signature). AreAlike x d.0) same (like d.0 d.1.to (subst (λ (x : Signature). AsksFor sys x d.0 d.1.to) (sym same) d.1.asks)))

@@ -48,12 +48,13 @@ fn bind_module<'o>(
     let bricks = objects[at].parts().bricks.as_slice();
     let mut bound = List::new(alloc, bricks.len())?;
     for number in 0..bricks.len() {
-        match binding(entries, &bricks[number]) {
+        let brick = &bricks[number];
+        match binding(entries, brick) {
             Some(to) => bound.push(to)?,
             None => {
                 return Err(MatchFault::NotSupplied {
                     module: at as u16 + 1,
-                    brick: bricks[number].name.copy(alloc)?,
+                    brick: brick.name.copy(alloc)?,
                 });
             }
         }
@@ -77,7 +78,8 @@ pub fn bind_all<'o>(
 {
     let mut of = List::new(alloc, objects.len())?;
     for at in 0..objects.len() {
-        of.push(bind_module(alloc, entries, objects, at)?)?;
+        let bound = bind_module(alloc, entries, objects, at)?;
+        of.push(bound)?;
     }
     Ok(Bindings { of })
 }
