@@ -1,5 +1,5 @@
 -- For what bricks ask, by the map of names.
-use Rattle.std.proofs.Common.{◌≡◌, ◌⊎◌, ◌<◌, ℕ, suc, Bool, true, false, not, is_some, ◌&&◌, List, [], ◌∷◌, ◌++◌, length, take, Option, Some, None, option_map, slice_get, MatchOption, Result, Ok, Err, IfOk, refl, sym, ap, ◌∙◌, subst, inl, inr, arith}
+use Rattle.std.proofs.Common.{◌≡◌, ◌⊎◌, ◌<◌, ℕ, suc, Bool, true, false, not, is_some, ◌&&◌, List, [], ◌∷◌, ◌++◌, length, take, Option, Some, None, option_map, slice_get, MatchOption, Result, Ok, Err, IfOk, refl, sym, ap, ◌∙◌, subst, inl, inr}
 use Rattle.std.proofs.Math.Seq.{take-suc, take-length}
 use Rattle.std.proofs.lemmas.Bool.{cases_order}
 use Rattle.std.proofs.lemmas.Option.{slice_get_within, get_or_from_slice_get}
@@ -16,7 +16,7 @@ use Rattle.rt_match.specs.declared.entries.Entry.{Entry}
 use Rattle.rt_match.specs.Matching as matching
 use Rattle.rt_match.specs.Matching.{Kind, Signature, System, module_of, AreAlike, supplied_signature, IsSupplied, HasBrick, IsEntry, AsksFor, AsksInVain, Duplicates, Lacks, DiffersFrom, Differs, IsUnsupplied, Never, IsBound, Correspond}
 use Rattle.rt_match.specs.Signatures.{signature, whose}
-use Rattle.rt_match.specs.Walking.{Names, entry_in, Known, is_ext, is_missing, bound_by, binding, Compared, IsNoted, IsAlike, IsUnlike, supplied_as, Bindable}
+use Rattle.rt_match.specs.Walking.{Names, entry_in, Known, is_ext, is_missing, bound_by, binding, Compared, IsNoted, IsAlike, IsUnlike, supplied_as}
 use Rattle.rt_match.proofs.Whose.{ext_whose, ext_is}
 use Rattle.rt_match.proofs.Walking.{has_one, module_within}
 
@@ -26,7 +26,7 @@ pub supplied_is : (p : Supplied) → IsSupplied (number_of p) (supplied_as p)
 supplied_is p = ap (λ (x : Option SuppliedBrick). option_map (supplied_signature (number_of p)) x) (numbers_agree p).0
 
 -- what is supplied has a brick
-supplied_from : (k : ℕ) (e : Signature) → IsSupplied k e → (p : Supplied) × (supplied_by e.name ≡ Some p) × (k ≡ number_of p) × (e ≡ supplied_as p)
+pub supplied_from : (k : ℕ) (e : Signature) → IsSupplied k e → (p : Supplied) × (supplied_by e.name ≡ Some p) × (k ≡ number_of p) × (e ≡ supplied_as p)
 supplied_from k e h = by (brick_numbered k) refl h
   where
     by : (o : Option SuppliedBrick) → brick_numbered k ≡ o → option_map (supplied_signature k) o ≡ Some e → (p : Supplied) × (supplied_by e.name ≡ Some p) × (k ≡ number_of p) × (e ≡ supplied_as p)
@@ -54,7 +54,7 @@ supplied_none k e h f = let x = supplied_from k e h in let q : Supplied = x.0 in
 
 -- ---- entries
 
-before_or : (n c m b : ℕ) → matching.Before n c m b ⊎ (((n ≡ m) × (c ≡ b)) ⊎ matching.Before m b n c)
+pub before_or : (n c m b : ℕ) → matching.Before n c m b ⊎ (((n ≡ m) × (c ≡ b)) ⊎ matching.Before m b n c)
 before_or n c m b = by (cases_order n m) (cases_order c b)
   where
     by : (n ≡ m) ⊎ ((n < m) ⊎ (m < n)) → (c ≡ b) ⊎ ((c < b) ⊎ (b < c)) → matching.Before n c m b ⊎ (((n ≡ m) × (c ≡ b)) ⊎ matching.Before m b n c)

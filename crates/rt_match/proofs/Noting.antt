@@ -1,5 +1,5 @@
 -- The map of names, brick by brick.
-use Rattle.std.proofs.Common.{◌≡◌, ◌<◌, ℕ, suc, Bool, true, false, not, is_some, List, [], length, Option, Some, None, refl, sym, ap, ◌∙◌, subst, inr, cond, arith}
+use Rattle.std.proofs.Common.{◌≡◌, ℕ, suc, Bool, true, false, not, is_some, List, [], length, Option, Some, None, refl, sym, ap, ◌∙◌, subst, inr, cond, arith}
 use Rattle.std.specs.BTreeMap.{is_at}
 use Rattle.std.specs.Cmp.Lexicographic.{slice_cmp}
 use Rattle.std.specs.Map.{lookup}

@@ -1,3 +1,4 @@
+pub mod Laws
 pub mod Matching
 pub mod Shapes
 pub mod Signatures

@@ -1,5 +1,5 @@
 -- Shapes, which are forms as the code lends them.
-use Rattle.std.specs.Prelude.{◌≡◌, List, ℕ}
+use Rattle.std.specs.Prelude.{◌≡◌}
 use Rattle.rt_modes.specs.declared.mode.ModeTable.{ModeTable}
 use Rattle.rt_match.specs.declared.shape.Shape.{Shape}
 use Rattle.rt_match.specs.declared.shape.Shape.TheVariants as shape

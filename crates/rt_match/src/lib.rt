@@ -9,10 +9,12 @@ mod bind;
 mod bindings;
 mod entries;
 mod fault;
+mod laws;
 mod missing;
 mod shape;
 mod verdict;
 
 pub use bindings::{Bindings, Bound};
 pub use fault::MatchFault;
+pub use laws::{bindings_lead, one_verdict};
 pub use verdict::match_all;

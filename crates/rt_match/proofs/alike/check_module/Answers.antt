@@ -1,4 +1,4 @@
-use Rattle.std.proofs.Common.{◌≡◌, ◌+◌, ℕ, suc, length, refl, sym, ap, ◌∙◌, arith, add-one}
+use Rattle.std.proofs.Common.{◌≡◌, suc, length, refl, arith, add-one}
 use Rattle.rt_match.specs.Matching.{Differs}
 use Rattle.rt_match.specs.Signatures.{signature, signatures, system_of}
 use Rattle.rt_match.specs.Walking.{IsAlike, IsUnlike}

@@ -1,5 +1,4 @@
-use Rattle.std.proofs.Common.{◌≡◌, Some, None, List, ℕ, Option, sym, ap, ◌∙◌, MatchOption}
-use Rattle.rt_modes.specs.declared.mode.ModeTable.{ModeTable}
+use Rattle.std.proofs.Common.{◌≡◌, Some, None, sym, ap, ◌∙◌, MatchOption}
 use Rattle.rt_supplied.specs.Bricks.{supplied_by}
 use Rattle.rt_match.specs.Signatures.{signature, whose, system_of}
 use Rattle.rt_match.specs.Walking.{entry_in, Compared, IsAlike, IsUnlike, supplied_as}

@@ -1,4 +1,4 @@
-use Rattle.std.proofs.Common.{◌≡◌, ◌+◌, ℕ, suc, List, Some, length, refl, sym, ap, ◌∙◌, arith, add-one}
+use Rattle.std.proofs.Common.{◌≡◌, length, sym, ◌∙◌, arith, add-one}
 use Rattle.std.proofs.lemmas.List.{length-map}
 use Rattle.rt_match.specs.Matching as matching
 use Rattle.rt_match.specs.Matching.{IsBound, Correspond, IsUnsupplied}

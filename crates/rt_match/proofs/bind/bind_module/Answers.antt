@@ -1,4 +1,4 @@
-use Rattle.std.proofs.Common.{◌≡◌, ◌+◌, ℕ, suc, List, Some, None, length, refl, sym, ap, ◌∙◌, subst, arith, add-one}
+use Rattle.std.proofs.Common.{◌≡◌, suc, length, sym, ap, ◌∙◌, arith, add-one}
 use Rattle.rt_match.specs.Matching as matching
 use Rattle.rt_match.specs.Matching.{Signature, IsBound, Correspond, IsUnsupplied}
 use Rattle.rt_match.specs.Signatures.{signature, signatures, system_of}

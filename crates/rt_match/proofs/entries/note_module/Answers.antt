@@ -1,4 +1,4 @@
-use Rattle.std.proofs.Common.{◌≡◌, ◌+◌, ℕ, suc, length, refl, sym, ◌∙◌, arith, add-one}
+use Rattle.std.proofs.Common.{◌≡◌, ◌+◌, suc, length, refl, sym, ◌∙◌, arith, add-one}
 use Rattle.rt_match.specs.Signatures.{signatures, system_of}
 use Rattle.rt_match.proofs.Walking.{module_here, brick_here, end_here}
 use Rattle.rt_match.proofs.Noting.{duplicate_here, noted_entry, noted_brick, noted_turn}

@@ -1,4 +1,4 @@
-use Rattle.std.proofs.Common.{◌≡◌, ◌+◌, ℕ, suc, length, refl, sym, ◌∙◌, arith, add-one}
+use Rattle.std.proofs.Common.{◌≡◌, length, sym, ◌∙◌, arith, add-one}
 use Rattle.std.proofs.lemmas.List.{length-map}
 use Rattle.rt_match.specs.Matching.{Lacks}
 use Rattle.rt_match.specs.Signatures.{signatures, system_of}

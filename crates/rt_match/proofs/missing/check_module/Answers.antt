@@ -1,4 +1,4 @@
-use Rattle.std.proofs.Common.{◌≡◌, ◌+◌, ℕ, suc, length, refl, sym, ◌∙◌, arith, add-one}
+use Rattle.std.proofs.Common.{◌≡◌, suc, length, sym, ◌∙◌, arith, add-one}
 use Rattle.rt_match.specs.Matching.{Lacks}
 use Rattle.rt_match.specs.Signatures.{signature, signatures, system_of}
 use Rattle.rt_match.proofs.Walking.{module_here, brick_here, end_here, clear_step, clear_end}

@@ -1,0 +1,8 @@
+use Rattle.rt_match.proofs.Verdicts.{never_both, have_one_fault}
+use Rattle.rt_match.proofs.laws.one_verdict.Goals as goal
+
+pub returns-clause-apart : goal.returns-clause-apart
+returns-clause-apart c = never_both
+
+pub returns-clause-one : goal.returns-clause-one
+returns-clause-one c = have_one_fault
