@@ -17,4 +17,5 @@ mod verdict;
 pub use bindings::{Bindings, Bound};
 pub use fault::MatchFault;
 pub use laws::{bindings_lead, one_verdict};
+pub use shape::write_full_mode;
 pub use verdict::match_all;

@@ -83,6 +83,18 @@ fn write_shape(
     }
 }
 
+/// Appends the full mode of a brick, over the records of its module.
+pub fn write_full_mode(
+    alloc: Global,
+    table: &ModeTable,
+    kind: &BrickKind,
+    out: &mut Text,
+) -> Result<(), Memory>
+    ensures { OnOk result (out.new.items ≡ out.old.items ++ full_mode table.now (form_of kind.now)) }
+{
+    write_shape(alloc, table, shape_of(kind), out)
+}
+
 /// The full mode as a text.
 pub fn full_text(alloc: Global, table: &ModeTable, shape: Shape<'_>) -> Result<Bytes, Memory>
     ensures { IfOk result (λ text. text ≡ full_mode table.now (form shape.entry)) }
