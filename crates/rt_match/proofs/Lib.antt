@@ -1,4 +1,5 @@
 pub mod Asking
+pub mod Letters
 pub mod Noting
 pub mod Verdicts
 pub mod Walking

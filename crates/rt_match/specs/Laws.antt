@@ -1,6 +1,10 @@
 -- Laws of matching, which the definitions alone give.
 use Rattle.std.specs.Prelude.{◌≡◌, ℕ, zero, suc, List, Option, Some, None, slice_get}
+use Rattle.std.specs.List.{AllByRecursion}
+use Rattle.rt_object.specs.declared.object.ObjectParts.{ObjectParts}
+use Rattle.rt_object.specs.Ranges.{HasObjectRanges}
 use Rattle.rt_match.specs.Matching.{Signature, System, HasBrick, IsEntry, IsSupplied, AreAlike, Ext, Svc, Match, Fails, IsBound, AreBound}
+use Rattle.rt_match.specs.Signatures.{system_of}
 use Rattle.rt_match.specs.declared.bindings.Bound.{Bound}
 use Rattle.rt_match.specs.declared.bindings.Bound.TheVariants as bound
 use Rattle.rt_match.specs.declared.fault.MatchFault.{MatchFault}
@@ -51,3 +55,7 @@ NeverBoth = (sys : System) (f : MatchFault) → Match sys → IsRefusal f → Fa
 -- Modules have at most one fault.
 abbrev pub HaveOneFault : Type 0
 HaveOneFault = (sys : System) (f g : MatchFault) → IsRefusal f → IsRefusal g → Fails sys f → Fails sys g → f ≡ g
+
+-- The fault of a brick of objects that differs shows two texts that differ.
+abbrev pub DifferencesShow : Type 0
+DifferencesShow = (objects : List ObjectParts) (m : ℕ) (name wanted found : List ℕ) → AllByRecursion HasObjectRanges objects → Fails (system_of objects) (fault.Mismatch m name wanted found) → wanted ≡ found → ⊥

@@ -1,6 +1,6 @@
 //! Laws of matching, as the contracts of functions that do nothing.
 
-ghost use Rattle.rt_match.specs.Laws.{AllHaveOne, ExtsAreEntries, SvcsAreSupplied, LeadToEntries, HaveOneTable, NeverBoth, HaveOneFault};
+ghost use Rattle.rt_match.specs.Laws.{AllHaveOne, ExtsAreEntries, SvcsAreSupplied, LeadToEntries, HaveOneTable, NeverBoth, HaveOneFault, DifferencesShow};
 
 /// Each brick has a binding. Where modules match, an EXT brick is bound to an ENT brick of its name, sort and full mode, and an
 /// SVC brick to what is supplied so. Bindings lead to ENT bricks that are there, and there is one table of them.
@@ -12,8 +12,9 @@ pub fn bindings_lead()
     ensures one { HaveOneTable }
 {}
 
-/// Modules match, or have one fault.
+/// Modules match, or have one fault. That of a brick of objects that differs has two texts that differ.
 pub fn one_verdict()
     ensures apart { NeverBoth }
     ensures one { HaveOneFault }
+    ensures shown { DifferencesShow }
 {}
