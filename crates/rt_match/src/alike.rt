@@ -108,19 +108,19 @@ fn unlike<'o>(
     }
 }
 
-/// The fault of a brick that differs from what has this full mode.
+/// The fault of a brick of the module of this number that differs from what has this full mode.
 fn mismatch(
     alloc: Global,
-    module: u16,
+    number: u16,
     table: &ModeTable,
     brick: &Brick,
     found: Bytes,
 ) -> Result<MatchFault, Memory>
-    ensures { IfOk result (λ f. f ≡ fault.Mismatch «module» brick.now.name (signature table.now brick.now).mode found) }
+    ensures { IfOk result (λ f. f ≡ fault.Mismatch number brick.now.name (signature table.now brick.now).mode found) }
 {
     let wanted = full_text(alloc, table, shape_of(&brick.kind))?;
     Ok(MatchFault::Mismatch {
-        module,
+        module: number,
         brick: brick.name.copy(alloc)?,
         wanted,
         found,
