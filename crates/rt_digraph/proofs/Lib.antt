@@ -1,0 +1,8 @@
+pub mod Lists
+pub mod Costs
+pub mod States
+pub mod Moves
+pub mod Turns
+pub mod Ends
+pub mod Runs
+pub mod Told

@@ -1,0 +1,4 @@
+pub mod Walks
+pub mod Digraph
+pub mod Going
+pub mod Alone
