@@ -167,40 +167,40 @@ pub enum Ins {
     Test {
         relation: Rel,
         when: bool,
-        more: u16,
+        more: u32,
     },
     /// Goes forward.
     Skip {
-        more: u16,
+        more: u32,
     },
     /// Goes to an instruction: a visible jump.
     Go {
-        to: u16,
+        to: u32,
     },
     /// Takes 1 off the number on the stack; where it is 0 then, drops it and goes to an instruction.
     Case {
-        to: u16,
+        to: u32,
     },
     /// Takes the end of a FOR whose variable is a local, with its step in the next local, and goes forward where there is no
     /// turn. The turns behind the first stand in the local behind the step.
     CountFor {
         local: u16,
-        more: u16,
+        more: u32,
     },
     /// Takes the number of a TO, and goes forward where there is no turn.
     CountTo {
         local: u16,
-        more: u16,
+        more: u32,
     },
     /// Makes a further turn of a FOR, if there is one.
     TurnFor {
         local: u16,
-        to: u16,
+        to: u32,
     },
     /// Makes a further turn of a TO, if there is one.
     TurnTo {
         local: u16,
-        to: u16,
+        to: u32,
     },
     /// Calls a procedure brick of the module with so many arguments; `gives` is whether its result is kept.
     Invoke {
@@ -219,7 +219,7 @@ pub enum Ins {
     Leave,
     /// ERL becomes this frame's record, with an instruction as its label.
     Recover {
-        to: u16,
+        to: u32,
     },
     /// ERL becomes what it was when the procedure was entered.
     Restore,

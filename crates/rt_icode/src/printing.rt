@@ -104,7 +104,7 @@ fn put(out: &mut Text, text: &str) -> Result<(), Memory>
     out.push_all(text.as_bytes())
 }
 
-fn put_number(out: &mut Text, before: &str, n: u16) -> Result<(), Memory>
+fn put_number(out: &mut Text, before: &str, n: u32) -> Result<(), Memory>
     ensures { OnOk result (out.new.items ≡ out.old.items ++ (before.now ++ decimal n)) }
 {
     let mut digits = Buffer::new();
@@ -112,7 +112,7 @@ fn put_number(out: &mut Text, before: &str, n: u16) -> Result<(), Memory>
     put(out, digits.format(n))
 }
 
-fn put_numbers(out: &mut Text, ns: &[u16]) -> Result<(), Memory>
+fn put_numbers(out: &mut Text, ns: &[u32]) -> Result<(), Memory>
     ensures { OnOk result (out.new.items ≡ out.old.items ++ numbers ns.now) }
 {
     for n in ns {
@@ -125,7 +125,7 @@ fn put_parts(out: &mut Text, ns: &[u16]) -> Result<(), Memory>
     ensures { OnOk result (out.new.items ≡ out.old.items ++ parts ns.now) }
 {
     for n in ns {
-        put_number(out, ".", *n)?;
+        put_number(out, ".", u32::from(*n))?;
     }
     Ok(())
 }
@@ -133,10 +133,10 @@ fn put_parts(out: &mut Text, ns: &[u16]) -> Result<(), Memory>
 fn put_place(out: &mut Text, place: &Fixed) -> Result<(), Memory>
     ensures { OnOk result (out.new.items ≡ out.old.items ++ place_text place.now) }
 {
-    put_number(out, " ", place.brick)?;
-    put_number(out, ".", place.item)?;
+    put_number(out, " ", u32::from(place.brick))?;
+    put_number(out, ".", u32::from(place.item))?;
     put_parts(out, place.fields.as_slice())?;
-    put_number(out, "+", place.offset)
+    put_number(out, "+", u32::from(place.offset))
 }
 
 fn put_wide(out: &mut Text, wide: Width, place: &Fixed) -> Result<(), Memory>
@@ -146,21 +146,21 @@ fn put_wide(out: &mut Text, wide: Width, place: &Fixed) -> Result<(), Memory>
     put_place(out, place)
 }
 
-fn put_row(out: &mut Text, row: &Fixed, ns: &[u16]) -> Result<(), Memory>
+fn put_row(out: &mut Text, row: &Fixed, ns: &[u32]) -> Result<(), Memory>
     ensures { OnOk result (out.new.items ≡ out.old.items ++ (place_text row.now ++ numbers ns.now)) }
 {
     put_place(out, row)?;
     put_numbers(out, ns)
 }
 
-fn put_call(out: &mut Text, ns: &[u16], behind: &str) -> Result<(), Memory>
+fn put_call(out: &mut Text, ns: &[u32], behind: &str) -> Result<(), Memory>
     ensures { OnOk result (out.new.items ≡ out.old.items ++ (numbers ns.now ++ behind.now)) }
 {
     put_numbers(out, ns)?;
     put(out, behind)
 }
 
-fn put_test(out: &mut Text, of: Rel, when: bool, more: u16) -> Result<(), Memory>
+fn put_test(out: &mut Text, of: Rel, when: bool, more: u32) -> Result<(), Memory>
     ensures { OnOk result (out.new.items ≡ out.old.items ++ (relation_text of ++ (truth_text when ++ numbers (more ∷ [])))) }
 {
     put(out, relation(of))?;
@@ -227,38 +227,51 @@ fn put_operands(i: &Ins, out: &mut Text) -> Result<(), Memory>
             parameters,
             locals,
             recovers,
-        } => put_call(out, &[*brick, *parameters, *locals], recovery(*recovers)),
+        } => put_call(
+            out,
+            &[
+                u32::from(*brick),
+                u32::from(*parameters),
+                u32::from(*locals),
+            ],
+            recovery(*recovers),
+        ),
         Ins::Const(n)
         | Ins::Text(n)
         | Ins::Routine(n)
         | Ins::LoadLocal(n)
         | Ins::SaveLocal(n)
         | Ins::ClearLocal(n)
-        | Ins::Tell(n) => put_numbers(out, &[*n]),
-        Ins::Skip { more: n }
-        | Ins::Go { to: n }
-        | Ins::Case { to: n }
-        | Ins::Recover { to: n }
-        | Ins::ElementRow { size: n } => put_numbers(out, &[*n]),
+        | Ins::Tell(n)
+        | Ins::ElementRow { size: n } => put_numbers(out, &[u32::from(*n)]),
+        Ins::Skip { more: n } | Ins::Go { to: n } | Ins::Case { to: n } | Ins::Recover { to: n } =>
+            { put_numbers(out, &[*n]) }
         Ins::Reach(place) => put_place(out, place),
-        Ins::ReachRow { row, length } => put_row(out, row, &[*length]),
+        Ins::ReachRow { row, length } => put_row(out, row, &[u32::from(*length)]),
         Ins::Load { width, place } | Ins::Save { width, place } => put_wide(out, *width, place),
-        Ins::ElementAt { row, length, size } => put_row(out, row, &[*length, *size]),
+        Ins::ElementAt { row, length, size } => {
+            put_row(out, row, &[u32::from(*length), u32::from(*size)])
+        }
         Ins::LoadOwn(k) | Ins::SaveOwn(k) => put(out, item(*k)),
         Ins::Into {
             field: a,
             offset: b,
         }
-        | Ins::Element { length: a, size: b }
-        | Ins::CountFor { local: a, more: b }
-        | Ins::CountTo { local: a, more: b }
-        | Ins::TurnFor { local: a, to: b }
-        | Ins::TurnTo { local: a, to: b } => put_numbers(out, &[*a, *b]),
+        | Ins::Element { length: a, size: b } => {
+            put_numbers(out, &[u32::from(*a), u32::from(*b)])
+        }
+        Ins::CountFor { local, more: n }
+        | Ins::CountTo { local, more: n }
+        | Ins::TurnFor { local, to: n }
+        | Ins::TurnTo { local, to: n } => put_numbers(out, &[u32::from(*local), *n]),
         Ins::IntoRow {
             field,
             offset,
             length,
-        } => put_numbers(out, &[*field, *offset, *length]),
+        } => put_numbers(
+            out,
+            &[u32::from(*field), u32::from(*offset), u32::from(*length)],
+        ),
         Ins::Fetch(z) | Ins::Store(z) => put(out, width(*z)),
         Ins::Alter(a) => put(out, alter(*a)),
         Ins::Merge(m) => put(out, merge(*m)),
@@ -272,8 +285,14 @@ fn put_operands(i: &Ins, out: &mut Text) -> Result<(), Memory>
             brick,
             arguments,
             gives,
-        } => put_call(out, &[*brick, *arguments], kept(*gives)),
-        Ins::InvokeBy { arguments, gives } => put_call(out, &[*arguments], kept(*gives)),
+        } => put_call(
+            out,
+            &[u32::from(*brick), u32::from(*arguments)],
+            kept(*gives),
+        ),
+        Ins::InvokeBy { arguments, gives } => {
+            put_call(out, &[u32::from(*arguments)], kept(*gives))
+        }
         Ins::Discard | Ins::Length | Ins::Report | Ins::GiveUp | Ins::Leave | Ins::Restore => Ok(
             (),
         ),

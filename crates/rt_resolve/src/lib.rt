@@ -12,4 +12,5 @@ mod system;
 mod values;
 
 pub use code::{Code, ModuleCode, code_of, module_at};
+pub use statements::body as body_tree;
 pub use system::{System, are_numbered, resolve};

@@ -15,6 +15,12 @@ pub fn number(text: &str) -> Option<(u16, &str)> {
     Some((digits.parse::<u16>().ok()?, rest))
 }
 
+/// The same of the number of an instruction, or of instructions.
+pub fn count(text: &str) -> Option<(u32, &str)> {
+    let (digits, rest) = first(text);
+    Some((digits.parse::<u32>().ok()?, rest))
+}
+
 /// A word in octal digits.
 pub fn octal(digits: &str) -> Option<u16> {
     u16::from_str_radix(digits, 8).ok()

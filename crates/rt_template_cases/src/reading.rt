@@ -1,6 +1,6 @@
 //! Intermediate instructions, as their texts are read.
 
-use crate::numbers::{first, number};
+use crate::numbers::{count, first, number};
 use rt_icode::{Alter, Division, Fixed, IProc, Ins, Merge, OwnItem, Width};
 use rt_tree_nodes::Rel;
 use rt_words::{List, Memory, Name};
@@ -88,14 +88,37 @@ fn simple(name: &str, rest: &str) -> Option<Ins> {
         "Divide" => Some(Ins::Divide(division_of(rest.trim())?)),
         "DivideOr" => Some(Ins::DivideOr(division_of(rest.trim())?)),
         "Test" => test(rest),
+        "Skip" | "Go" | "Case" | "Recover" => way(name, rest),
+        "CountFor" | "CountTo" | "TurnFor" | "TurnTo" => turns(name, rest),
         _ => numbered(name, rest),
+    }
+}
+
+fn way(name: &str, rest: &str) -> Option<Ins> {
+    let (n, _rest) = count(rest)?;
+    match name {
+        "Skip" => Some(Ins::Skip { more: n }),
+        "Go" => Some(Ins::Go { to: n }),
+        "Case" => Some(Ins::Case { to: n }),
+        _ => Some(Ins::Recover { to: n }),
+    }
+}
+
+fn turns(name: &str, rest: &str) -> Option<Ins> {
+    let (local, rest) = number(rest)?;
+    let (n, _rest) = count(rest)?;
+    match name {
+        "CountFor" => Some(Ins::CountFor { local, more: n }),
+        "CountTo" => Some(Ins::CountTo { local, more: n }),
+        "TurnFor" => Some(Ins::TurnFor { local, to: n }),
+        _ => Some(Ins::TurnTo { local, to: n }),
     }
 }
 
 fn test(rest: &str) -> Option<Ins> {
     let (relation, rest) = first(rest);
     let (when, rest) = first(rest);
-    let (more, _rest) = number(rest)?;
+    let (more, _rest) = count(rest)?;
     Some(Ins::Test {
         relation: relation_of(relation)?,
         when: when == "true",
@@ -114,10 +137,6 @@ fn numbered(name: &str, rest: &str) -> Option<Ins> {
         "ClearLocal" => Some(Ins::ClearLocal(a)),
         "ElementRow" => Some(Ins::ElementRow { size: a }),
         "Tell" => Some(Ins::Tell(a)),
-        "Skip" => Some(Ins::Skip { more: a }),
-        "Go" => Some(Ins::Go { to: a }),
-        "Case" => Some(Ins::Case { to: a }),
-        "Recover" => Some(Ins::Recover { to: a }),
         "InvokeBy" => Some(Ins::InvokeBy {
             arguments: a,
             gives: rest.trim() == "kept",
@@ -134,10 +153,6 @@ fn with_two(name: &str, a: u16, rest: &str) -> Option<Ins> {
             offset: b,
         }),
         "Element" => Some(Ins::Element { length: a, size: b }),
-        "CountFor" => Some(Ins::CountFor { local: a, more: b }),
-        "CountTo" => Some(Ins::CountTo { local: a, more: b }),
-        "TurnFor" => Some(Ins::TurnFor { local: a, to: b }),
-        "TurnTo" => Some(Ins::TurnTo { local: a, to: b }),
         "Invoke" => Some(Ins::Invoke {
             brick: a,
             arguments: b,

@@ -69,8 +69,8 @@ pub fn put_template(
             more,
         } => ways::test(out, *relation, *when, layout.way(past(number, *more))),
         Ins::Skip { more } => out.put(&[ways::jump(layout.way(past(number, *more)))]),
-        Ins::Go { to } => out.put(&[ways::shown_jump(layout.way(usize::from(*to)))]),
-        Ins::Case { to } => ways::case(out, layout.way(usize::from(*to))),
+        Ins::Go { to } => out.put(&[ways::shown_jump(layout.way(*to as usize))]),
+        Ins::Case { to } => ways::case(out, layout.way(*to as usize)),
         Ins::CountFor { local, more } => {
             ways::count_for(out, layout, *local, layout.way(past(number, *more)))
         }
@@ -78,10 +78,10 @@ pub fn put_template(
             ways::count_to(out, layout, *local, layout.way(past(number, *more)))
         }
         Ins::TurnFor { local, to } => {
-            ways::turn_for(out, layout, *local, layout.way(usize::from(*to)))
+            ways::turn_for(out, layout, *local, layout.way(*to as usize))
         }
         Ins::TurnTo { local, to } => {
-            ways::turn_to(out, layout, *local, layout.way(usize::from(*to)))
+            ways::turn_to(out, layout, *local, layout.way(*to as usize))
         }
         Ins::Invoke {
             brick,
@@ -91,15 +91,15 @@ pub fn put_template(
         Ins::InvokeBy { arguments, gives } => calls::invoke_by(out, *arguments, *gives),
         Ins::GiveUp => calls::give_up(out),
         Ins::Leave => calls::leave(out),
-        Ins::Recover { to } => calls::recover(out, layout.way(usize::from(*to))),
+        Ins::Recover { to } => calls::recover(out, layout.way(*to as usize)),
         Ins::Restore => out.put(&[shown(mov(layout.former(), Operand::Deferred(Reg::R4)))]),
     }
 }
 
 // The instruction behind so many that are left out.
-fn past(number: usize, more: u16) -> usize
+fn past(number: usize, more: u32) -> usize
     requires { number ≤ most }
     ensures { result ≡ number + 1 + more }
 {
-    number + 1 + usize::from(more)
+    number + 1 + more as usize
 }

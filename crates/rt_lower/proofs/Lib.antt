@@ -1,0 +1,8 @@
+pub mod Lengths
+pub mod Laying
+pub mod Drafted
+pub mod Labelled
+pub mod Whole
+pub mod Sizes
+pub mod Listing
+pub mod Alone

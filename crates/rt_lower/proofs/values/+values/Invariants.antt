@@ -1,0 +1,16 @@
+use Rattle.std.proofs.Common.{ℕ, ◌+◌, ◌*◌}
+use Rattle.rt_work.specs.Nodes as n
+use Rattle.rt_lower.proofs.Sizes.{size_t, size_p, size_ts}
+use Rattle.rt_lower.proofs.values.+values.Given as goal
+
+abbrev pub decreases-term : goal.decreases-term
+decreases-term l = 2 * size_t (n.term l.term.now)
+
+abbrev pub decreases-address : goal.decreases-address
+decreases-address l = 2 * size_p (n.path l.path.now)
+
+abbrev pub decreases-wanted : goal.decreases-wanted
+decreases-wanted l = 2 * size_p (n.path l.path.now) + 1
+
+abbrev pub decreases-terms : goal.decreases-terms
+decreases-terms l = 2 * size_ts (n.terms l.arguments.now)
