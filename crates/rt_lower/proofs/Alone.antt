@@ -1,10 +1,10 @@
 -- An IF that stands alone behind ELSE.
-use Rattle.std.proofs.Common.{◌≡◌, ℕ, ◌+◌, ◌<◌, Option, Some, None, refl, subst, arith}
+use Rattle.std.proofs.Common.{◌≡◌, ℕ, ◌<◌, Some, None, refl, subst, arith}
 use Rattle.rt_tree_nodes.specs.Tree.{Stmt, If, Seq, Done, Then, Mark}
 use Rattle.rt_lower.specs.declared.draft.Draft.{Draft}
 use Rattle.rt_lower.specs.declared.layouts.Layouts.{Layouts}
 use Rattle.rt_lower.specs.Drafts.{IfParts, parts_of, alone_if, arm, otherwise, sequence}
-use Rattle.rt_lower.proofs.Sizes.{size_s, size_q}
+use Rattle.rt_lower.proofs.Sizes.{size_q}
 
 pub record IsAlone (l : Layouts) (q : Seq) (x : IfParts) : Type 0 where
   pub same : (end : ℕ) (d : Draft) → otherwise l end q d ≡ otherwise l end x.other (arm l end x.test (sequence l x.taken) d)

@@ -1,7 +1,6 @@
 -- What is written of conditions and statements becomes their code.
-use Rattle.std.proofs.Common.{◌≡◌, ℕ, ◌+◌, ◌-◌, Bool, true, false, List, [], ◌∷◌, ◌++◌, length, map, refl, sym, ap, ◌∙◌, append_assoc, arith, length-append}
+use Rattle.std.proofs.Common.{◌≡◌, ℕ, ◌+◌, Bool, true, false, List, [], ◌∷◌, ◌++◌, length, map, refl, sym, ap, ◌∙◌, append_assoc, arith, length-append}
 use Rattle.std.proofs.lemmas.List.{append-nil}
-use Rattle.rt_tree_nodes.specs.declared.operators.Rel.{Rel}
 use Rattle.rt_tree_nodes.specs.Tree.{Term, Cond, Is, Both, Either, Stmt, Keep, Clear, Put, Run, Toss, Goto, GiveBack, Back, Switch, Inner, If, For, To, While, Recover, Seq, Done, Then, Mark}
 use Rattle.rt_icode.specs.declared.ins.Ins.{Ins}
 use Rattle.rt_icode.specs.declared.ins.Ins.TheVariants as ins
@@ -14,7 +13,7 @@ use Rattle.rt_lower.specs.Code as code
 use Rattle.rt_lower.specs.Code.{Leads, nowhere, cases, for_head, extent}
 use Rattle.rt_lower.specs.Drafts.{put, add, opened, here, note, laid, left_out, condition, side, statement, arm, otherwise, sequence}
 use Rattle.rt_lower.proofs.Laying.{Places, Drafts, Always, puts, stays, adds, grows, thens, same, closes, noted_before}
-use Rattle.rt_lower.proofs.Lengths.{condition_length, statement_length, sequence_length}
+use Rattle.rt_lower.proofs.Lengths.{sequence_length}
 
 one_more : (d : Draft) (x : Piece) → length (add (x ∷ []) d).code ≡ length d.code + 1
 one_more d x = omega (arith, length-append d.code (x ∷ []))

@@ -1,21 +1,20 @@
 -- Where labels lead: the first place of each is noted.
-use Rattle.std.proofs.Common.{◌≡◌, ℕ, zero, suc, ◌+◌, ◌-◌, ◌<◌, ◌==◌, Bool, true, false, if◌then◌else◌, List, [], ◌∷◌, ◌++◌, length, Option, Some, None, refl, sym, ap, ◌∙◌, arith, length-append}
+use Rattle.std.proofs.Common.{◌≡◌, ℕ, zero, suc, ◌+◌, ◌-◌, ◌<◌, ◌==◌, Bool, true, false, if◌then◌else◌, List, [], ◌∷◌, length, Option, Some, None, refl, sym, ap, ◌∙◌, arith, length-append}
 use Rattle.std.proofs.Common.{◌⊎◌, inl, inr, ◌≤◌, get_or}
 use Rattle.std.proofs.lemmas.Bool.Decides.{eqb_tells, leb_tells}
 use Rattle.std.proofs.Math.Dec.{leb}
 use Rattle.std.proofs.Math.Seq.{get_or-append_right}
 use Rattle.std.proofs.lemmas.List.{get_or_append_left, get_or_past, get_or-set_same, get_or-set_other, length-replicate}
-use Rattle.std.specs.Prelude.{slice_get, slice_set, replicate}
+use Rattle.std.specs.Prelude.{slice_set, replicate}
 use Rattle.rt_tree_nodes.specs.Tree.{Cond, Is, Both, Either, Stmt, Keep, Clear, Put, Run, Toss, Goto, GiveBack, Back, Switch, Inner, If, For, To, While, Recover, Seq, Done, Then, Mark}
 use Rattle.rt_work.specs.Task.{or_else}
-use Rattle.rt_icode.specs.declared.ins.Ins.TheVariants as ins
 use Rattle.rt_lower.specs.declared.draft.Draft.{Draft}
 use Rattle.rt_lower.specs.declared.draft.Piece.TheVariants as piece
 use Rattle.rt_lower.specs.declared.layouts.Layouts.{Layouts}
 use Rattle.rt_lower.specs.Values.{value}
 use Rattle.rt_lower.specs.Code as code
 use Rattle.rt_lower.specs.Code.{nowhere, for_head, extent, reach, span, place, place_inside}
-use Rattle.rt_lower.specs.Drafts.{put, add, opened, here, note, noted, noted_if, is_there, listed, label_in, grown, condition, side, statement, arm, otherwise, sequence}
+use Rattle.rt_lower.specs.Drafts.{put, add, opened, note, noted, noted_if, is_there, label_in, grown, condition, side, statement, arm, otherwise, sequence}
 use Rattle.rt_lower.proofs.Laying.{Always, grows, puts}
 use Rattle.rt_lower.proofs.Lengths.{statement_length, sequence_length}
 use Rattle.rt_lower.proofs.Drafted.{side_drafts, statement_drafts, sequence_drafts}

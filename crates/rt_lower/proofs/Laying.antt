@@ -1,5 +1,5 @@
 -- Pieces of code, one behind the other, where places and labels are known.
-use Rattle.std.proofs.Common.{◌≡◌, ℕ, ◌+◌, ◌-◌, List, [], ◌∷◌, ◌++◌, length, map, refl, sym, ap, ◌∙◌, subst, append_assoc, arith, length-append}
+use Rattle.std.proofs.Common.{◌≡◌, ℕ, ◌+◌, List, [], ◌∷◌, ◌++◌, length, refl, sym, ap, ◌∙◌, subst, append_assoc, arith, length-append}
 use Rattle.std.proofs.lemmas.List.{append-nil, length-map}
 use Rattle.std.proofs.Math.Seq.{set-append_seam}
 use Rattle.std.specs.Prelude.{slice_set}
@@ -8,7 +8,7 @@ use Rattle.rt_lower.specs.declared.draft.Draft.{Draft}
 use Rattle.rt_lower.specs.declared.draft.Piece.{Piece}
 use Rattle.rt_lower.specs.declared.draft.Piece.TheVariants as piece
 use Rattle.rt_lower.specs.Code.{Leads}
-use Rattle.rt_lower.specs.Drafts.{whole, put, add, opened, here, note, laid, laid_from, left_out}
+use Rattle.rt_lower.specs.Drafts.{whole, put, add, opened, here, note, laid, laid_from}
 
 abbrev pub Places : Type 0
 Places = ℕ → ℕ

@@ -1,11 +1,11 @@
 -- How long code is rests neither on where it begins nor on where its labels lead.
 use Rattle.std.proofs.Common.{◌≡◌, ℕ, suc, ◌+◌, Bool, true, false, List, [], ◌∷◌, ◌++◌, length, refl, ap, arith, length-append}
-use Rattle.rt_tree_nodes.specs.Tree.{Term, Cond, Is, Both, Either, Stmt, Keep, Clear, Put, Run, Toss, Goto, GiveBack, Back, Switch, Inner, If, For, To, While, Recover, Seq, Done, Then, Mark}
+use Rattle.rt_tree_nodes.specs.Tree.{Cond, Is, Both, Either, Stmt, Keep, Clear, Put, Run, Toss, Goto, GiveBack, Back, Switch, Inner, If, For, To, While, Recover, Seq, Done, Then, Mark}
 use Rattle.rt_icode.specs.declared.ins.Ins.{Ins}
 use Rattle.rt_icode.specs.declared.ins.Ins.TheVariants as ins
 use Rattle.rt_lower.specs.declared.layouts.Layouts.{Layouts}
 use Rattle.rt_lower.specs.Values.{value}
-use Rattle.rt_lower.specs.Code.{Leads, nowhere, cases, condition, for_head, statement, sequence}
+use Rattle.rt_lower.specs.Code.{Leads, cases, condition, for_head, statement, sequence}
 
 pub joined : (a b c d : List Ins) → length a ≡ length c → length b ≡ length d → length (a ++ b) ≡ length (c ++ d)
 joined a b c d e f = omega (arith, length-append a b, length-append c d)

@@ -1,12 +1,12 @@
 -- Lists of offsets and sizes, as they grow.
-use Rattle.std.proofs.Common.{◌≡◌, ℕ, zero, suc, ◌+◌, ◌≤◌, Bool, true, false, List, [], ◌∷◌, ◌++◌, length, Option, Some, None, option_map, refl, sym, ap, ◌∙◌, subst, ◌⊎◌, inl, inr, ◌-◌, ◌<◌, replicate, append_assoc, arith, length-append}
+use Rattle.std.proofs.Common.{◌≡◌, ℕ, zero, suc, Bool, true, false, List, [], ◌∷◌, ◌++◌, length, Option, Some, None, refl, sym, ap, ◌∙◌, subst, ◌⊎◌, inl, inr, ◌-◌, ◌<◌, replicate, append_assoc, arith, length-append}
 use Rattle.std.specs.Prelude.{slice_get, nat_le, if◌then◌else◌}
 use Rattle.rt_sizes.specs.declared.size.Size.{Size}
 use Rattle.rt_sizes.specs.declared.size.Size.TheVariants as size
 use Rattle.rt_modes.specs.declared.mode.Field.{Field}
 use Rattle.rt_modes.specs.declared.mode.RecordDef.{RecordDef}
 use Rattle.rt_sizes.specs.Sizes.{most, Table, Begins, within}
-use Rattle.rt_sizes.specs.Capped.{counted, listed, size_in, AreSizes}
+use Rattle.rt_sizes.specs.Capped.{counted, listed, AreSizes}
 use Rattle.rt_sizes.proofs.Kept.{some_counted}
 use Rattle.rt_lower.specs.Drafts.{grown}
 use Rattle.rt_lower.specs.Layouts.{table_of, AreRecordSizes}

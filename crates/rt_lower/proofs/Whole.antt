@@ -1,7 +1,6 @@
 -- What is written of a procedure becomes its code.
-use Rattle.std.proofs.Common.{◌≡◌, ℕ, zero, suc, ◌+◌, List, [], ◌∷◌, ◌++◌, length, Option, Some, None, refl, sym, ap, ◌∙◌, subst, append_assoc, arith, length-append}
+use Rattle.std.proofs.Common.{◌≡◌, ℕ, ◌+◌, List, [], ◌∷◌, ◌++◌, length, refl, sym, ap, ◌∙◌, subst, append_assoc, arith, length-append}
 use Rattle.std.proofs.Math.Path.{fun_ext}
-use Rattle.std.specs.Prelude.{slice_get}
 use Rattle.rt_tree_nodes.specs.Tree.{Seq}
 use Rattle.rt_icode.specs.declared.ins.Ins.{Ins}
 use Rattle.rt_icode.specs.declared.ins.Ins.TheVariants as ins
@@ -11,7 +10,7 @@ use Rattle.rt_lower.specs.Layouts.{number}
 use Rattle.rt_lower.specs.Code as code
 use Rattle.rt_lower.specs.Code.{Leads, leads_in, code_behind}
 use Rattle.rt_lower.specs.Drafts.{put, sequence, place_in, lead_in, laid_from, laid_out}
-use Rattle.rt_lower.proofs.Laying.{Places, HasFrom, has_at, Drafts, Always, puts, thens}
+use Rattle.rt_lower.proofs.Laying.{HasFrom, has_at, Always, puts, thens}
 use Rattle.rt_lower.proofs.Drafted.{sequence_drafts}
 use Rattle.rt_lower.proofs.Labelled.{sequence_labels}
 

@@ -1,6 +1,5 @@
 -- Ways end in their procedure.
-use Rattle.std.proofs.Common.{◌≡◌, ℕ, zero, suc, ◌+◌, ◌<◌, ◌≤◌, ◌==◌, Bool, true, false, ◌&&◌, if◌then◌else◌, List, [], ◌∷◌, ◌++◌, length, Option, Some, None, refl, sym, ap, ◌∙◌, subst, arith, length-append}
-use Rattle.std.specs.Prelude.{slice_get}
+use Rattle.std.proofs.Common.{◌≡◌, ℕ, ◌+◌, ◌<◌, ◌≤◌, ◌==◌, Bool, true, false, if◌then◌else◌, List, [], ◌∷◌, ◌++◌, length, Option, Some, None, refl, sym, ap, ◌∙◌, subst, arith, length-append}
 use Rattle.rt_tree_nodes.specs.Tree.{Term, Cond, Is, Both, Either, Stmt, Keep, Clear, Put, Run, Toss, Goto, GiveBack, Back, Switch, Inner, If, For, To, While, Recover, Seq, Done, Then, Mark}
 use Rattle.rt_work.specs.Task.{or_else}
 use Rattle.rt_icode.specs.declared.ins.Ins.{Ins}
@@ -9,10 +8,10 @@ use Rattle.rt_icode.specs.Within.{leads, is_enter}
 use Rattle.rt_lower.specs.declared.layouts.Layouts.{Layouts}
 use Rattle.rt_lower.specs.Layouts.{number}
 use Rattle.rt_lower.specs.Values.{value, width_of}
-use Rattle.rt_lower.specs.Code.{Leads, nowhere, cases, for_head, condition, statement, sequence, extent, reach, span, place, place_inside, leads_in}
-use Rattle.rt_lower.proofs.Lengths.{condition_length, statement_length, sequence_length}
+use Rattle.rt_lower.specs.Code.{Leads, nowhere, cases, for_head, condition, statement, sequence, extent, reach, span, place, place_inside}
+use Rattle.rt_lower.proofs.Lengths.{condition_length, sequence_length}
 use Rattle.rt_lower_laws.specs.Laws.{is_plain, LabelsLeadInside}
-use Rattle.rt_lower_laws.proofs.Calm.{is_still, all_still, reported, reported_at, both_true, first_true, second_true, reported_append, Calm, calm_none, calm_both, plainly, value_calm, alone_calm, assigned_calm, followed_calm}
+use Rattle.rt_lower_laws.proofs.Calm.{is_still, all_still, reported, reported_at, both_true, first_true, second_true, reported_append, Calm, calm_both, plainly, value_calm, alone_calm, assigned_calm, followed_calm}
 
 abbrev pub is_division : Ins → Bool
 is_division (ins.DivideOr d) = true
@@ -62,7 +61,7 @@ calm_led n k is h = record { fine = all_fine n k is h.still; reported = h.report
 pub led_both : (n k m : ℕ) (is js : List Ins) → m ≡ k + length is → Led n k is → Led n m js → Led n k (is ++ js)
 led_both n k m is js e f g = record { fine = fine_append n k m is js e f.fine g.fine; reported = reported_append is js f.reported g.reported }
 
-some_same : (a b : ℕ) → Some a ≡ Some b → a ≡ b
+pub some_same : (a b : ℕ) → Some a ≡ Some b → a ≡ b
 some_same a b e = cc
 
 -- an instruction that leads to another
@@ -208,6 +207,10 @@ module _ (l : Layouts) where
   below_more n m None h k = tt
   below_more n m (Some at) h k = omega (arith, k)
 
+  marked_below : (b : Bool) (at n : ℕ) (o : Option ℕ) → at ≤ n → Below n o → Below n (if b then Some at else o)
+  marked_below true at n o h k = h
+  marked_below false at n o h k = k
+
   behind : (xs : List Ins) (i : Ins) → length (xs ++ i ∷ []) ≡ length xs + 1
   behind xs i = omega (arith, length-append xs (i ∷ []))
 
@@ -219,10 +222,7 @@ module _ (l : Layouts) where
         let all : extent l (Then s q) ≡ reach l s + extent l q = omega (arith, length-append first (sequence l nowhere (0 + length first) q), sequence_length l nowhere nowhere (0 + length first) 0 q) in
         below_or (at + extent l (Then s q)) (place_inside l k at s) (place l k (at + reach l s) q) (below_more (at + reach l s) _ _ (omega (arith, all)) (inside_below k at s))
         (below_more (at + reach l s + extent l q) _ _ (omega (arith, all)) (place_below k (at + reach l s) q))
-    place_below k at (Mark j q) = by (j == k) where
-      by : (b : Bool) → Below (at + extent l q) (if b then Some at else place l k at q)
-      by true = omega arith
-      by false = place_below k at q
+    place_below k at (Mark j q) = marked_below (j == k) at (at + extent l q) (place l k at q) (omega arith) (place_below k at q)
 
     inside_below : (k at : ℕ) (s : Stmt) → Below (at + reach l s) (place_inside l k at s)
     inside_below k at (Keep i v) = tt

@@ -1,9 +1,7 @@
 -- The locals of a body that fits are no more than its nodes give room for.
-use Rattle.std.proofs.Common.{◌≡◌, ◌⊎◌, inl, inr, ℕ, suc, ◌+◌, ◌≤◌, ◌==◌, Bool, true, false, ◌&&◌, if◌then◌else◌, List, [], ◌∷◌, length, map, Option, Some, None, option_map, slice_get, refl, sym, ap, subst, ◌∙◌, arith}
+use Rattle.std.proofs.Common.{◌≡◌, ◌⊎◌, inl, inr, ℕ, suc, ◌+◌, ◌≤◌, ◌==◌, Bool, true, false, ◌&&◌, if◌then◌else◌, List, [], ◌∷◌, length, map, Option, Some, None, slice_get, refl, sym, ◌∙◌, arith}
 use Rattle.std.proofs.lemmas.Bool.{and_parts}
 use Rattle.std.proofs.lemmas.Bool.Decides.{eqb_tells}
-use Rattle.rt_modes.specs.declared.mode.Mode.{Mode}
-use Rattle.rt_tree_nodes.specs.declared.brick.ProcBody.{ProcBody}
 use Rattle.rt_tree_nodes.specs.declared.statement.Body.{Body, out-Body, roll-Body, map-Body}
 use Rattle.rt_tree_nodes.specs.declared.statement.Body as bodies
 use Rattle.rt_tree_nodes.specs.declared.statement.Branch.{Branch, out-Branch, roll-Branch, map-Branch}
@@ -18,9 +16,7 @@ use Rattle.rt_tree_nodes.specs.declared.statement.Stat.TheOpen.{Stat-F, Body-F, 
 use Rattle.rt_tree_nodes.specs.declared.value.Value.{Value}
 use Rattle.rt_tree_nodes.specs.Scopes.{Scope, with, only, passes, scope_of, with_locals}
 use Rattle.rt_tree_nodes.specs.Tree.{Cond, Stmt, Seq, Done, Then}
-use Rattle.rt_tree_nodes.specs.Typing.{valued, placed}
-use Rattle.rt_tree.specs.declared.sight.Next.{Next}
-use Rattle.rt_tree.specs.Modules.{proc_fits, parameters_first, local_stands, numbers_all, numbers_behind, is_last, closes, first_sight}
+use Rattle.rt_tree.specs.Modules.{parameters_first, numbers_all, numbers_behind, is_last, closes, first_sight}
 use Rattle.rt_tree.specs.Statements as S
 use Rattle.rt_tree.specs.Statements.{Marked, Sight, tested, nothing, then_part, where_it_holds, in_order, labels_end, sight_with, labels_from, next_by, sequence, branches_in_order, otherwise, marked, marks, labelled_tree, sequence_tree, otherwise_tree, branches_tree, if_tree, start_tree, starts_tree, stat_tree, body_tree, declares, start_fits, takes_three}
 use Rattle.rt_lower_laws.specs.Laws.{room, room_in, LocalsHaveRoom}
@@ -34,14 +30,14 @@ passed : {A : Type 0} (test : A → Bool) (o : Option A) → passes test o ≡ t
 passed test None h = absurd cc
 passed test (Some x) h = (x, refl, h)
 
-only_same : (b : Bool) (n m : Next) → only b n ≡ Some m → n.local ≡ m.local
-only_same true n m e = let same : n ≡ m = cc in ap (λ (x : Next). x.local) same
-only_same false n m e = absurd cc
+only_is : {A : Type 0} (b : Bool) (n m : A) → only b n ≡ Some m → n ≡ m
+only_is true n m e = cc
+only_is false n m e = absurd cc
 
-same_next : (n m : Next) → Some n ≡ Some m → n.local ≡ m.local
-same_next n m e = let same : n ≡ m = cc in ap (λ (x : Next). x.local) same
+some_is : {A : Type 0} (n m : A) → Some n ≡ Some m → n ≡ m
+some_is n m e = cc
 
-some_if : (b : Bool) (o : Option Next) (m : Next) → (if b then o else None) ≡ Some m → (b ≡ true) × (o ≡ Some m)
+some_if : {A : Type 0} (b : Bool) (o : Option A) (m : A) → (if b then o else None) ≡ Some m → (b ≡ true) × (o ≡ Some m)
 some_if true o m e = (refl, e)
 some_if false o m e = absurd cc
 
@@ -93,7 +89,7 @@ module _ (c : Scope) where
 
   -- from the number of locals before to that behind, where a part fits
   abbrev Within : S.Part → ℕ → Type 0
-  Within part k = (g : Sight) (n m : Next) → part g n ≡ Some m → m.local ≤ n.local + k
+  Within part k = (g : Sight) (n m : _) → part g n ≡ Some m → m.local ≤ n.local + k
 
   abbrev StatRoom : Stat → Type 0
   StatRoom s = Within (S.stat_part c s) (room (stat_of s))
@@ -106,7 +102,7 @@ module _ (c : Scope) where
 
   -- a statement with its labels, and what stands behind it
   abbrev LineRoom : Labelled → Type 0
-  LineRoom x = (g : Sight) (n m : Next) → (marked c x).part g n ≡ Some m → (q : Seq) → m.local + room_in q ≤ n.local + room_in (line_of x q)
+  LineRoom x = (g : Sight) (n m : _) → (marked c x).part g n ≡ Some m → (q : Seq) → m.local + room_in q ≤ n.local + room_in (line_of x q)
 
   abbrev StatPair : Type 0
   StatPair = (s : Stat) × StatRoom s
@@ -128,27 +124,28 @@ module _ (c : Scope) where
 
   -- ---- locals of a body
 
-  starts_room : (ds : List LocalStart) (n m : Next) (q : Seq) → declares c ds n ≡ Some m → m.local + room_in q ≤ n.local + room_in (starts_tree c ds q)
-  starts_room [] n m q e = let same = same_next n m e in omega (arith, same)
+  starts_room : (ds : List LocalStart) (n m : _) (q : Seq) → declares c ds n ≡ Some m → m.local + room_in q ≤ n.local + room_in (starts_tree c ds q)
+  starts_room [] n m q e = let one : n ≡ m = some_is n m e in let same : n.local ≡ m.local = cc in omega (arith, same)
   starts_room (d ∷ ds) n m q e =
       let parts = some_if (d.local == n.local && start_fits c (slice_get c.locals d.local) d.start) (declares c ds (next_by n.label (suc n.local))) m e in
       let rest = starts_room ds (next_by n.label (suc n.local)) m q parts.1 in
       omega (arith, rest, start_room c d.local d.start)
 
-  three_more : (i : ℕ) (n m : Next) → takes_three c i n ≡ Some m → m.local ≡ n.local + 3
+  three_more : (i : ℕ) (n m : _) → takes_three c i n ≡ Some m → m.local ≡ n.local + 3
   three_more i n m e =
       let parts = some_if (i == n.local && _) (Some (next_by n.label (i + 3))) m e in
       let first = and_parts (i == n.local) _ parts.0 in
-      let same = same_next (next_by n.label (i + 3)) m parts.1 in
+      let one : next_by n.label (i + 3) ≡ m = some_is (next_by n.label (i + 3)) m parts.1 in
+      let same : i + 3 ≡ m.local = cc in
       by (eqb_tells i n.local) first.0 same where
-      by : ((i == n.local) ≡ true) × (i ≡ n.local) ⊎ ((i == n.local) ≡ false) × (i ≡ n.local → ⊥) → (i == n.local) ≡ true → i + 3 ≡ m.local → m.local ≡ n.local + 3
-      by (inl h) f k = omega (arith, h.1, k)
-      by (inr h) f k = absurd (let bad : true ≡ false = sym f ∙ h.0 in cc)
+        by : ((i == n.local) ≡ true) × (i ≡ n.local) ⊎ ((i == n.local) ≡ false) × (i ≡ n.local → ⊥) → (i == n.local) ≡ true → i + 3 ≡ m.local → m.local ≡ n.local + 3
+        by (inl h) f k = omega (arith, h.1, k)
+        by (inr h) f k = absurd (let bad : true ≡ false = sym f ∙ h.0 in cc)
 
   -- ---- sequences and branches
 
   order_room : (xs : List LinePair) → Within (in_order (map (marked c) (plain_lines xs))) (room_in (sequence_tree (map line_of (plain_lines xs))))
-  order_room [] g n m e = let same = same_next n m e in omega (arith, same)
+  order_room [] g n m e = let one : n ≡ m = some_is n m e in let same : n.local ≡ m.local = cc in omega (arith, same)
   order_room (x ∷ xs) g n m e =
       let t = some_with ((marked c x.0).part g n) (in_order (map (marked c) (plain_lines xs)) g) m e in
       let rest = order_room xs g t.0 m t.2 in
@@ -160,7 +157,7 @@ module _ (c : Scope) where
 
   branches_within : (bs : List BranchPair) → Within (branches_in_order (map (S.branch_part c) (plain_branches bs))) (branches_room (map branch_of (plain_branches bs)))
   unfolding branches_room
-  branches_within [] g n m e = let same = same_next n m e in omega (arith, same)
+  branches_within [] g n m e = let one : n ≡ m = some_is n m e in let same : n.local ≡ m.local = cc in omega (arith, same)
   branches_within (b ∷ bs) g n m e =
       let t = some_with (S.branch_part c b.0 g n) (branches_in_order (map (S.branch_part c) (plain_branches bs)) g) m e in
       let first = b.1 g n t.0 t.1 in
@@ -172,7 +169,7 @@ module _ (c : Scope) where
   if_within bs e part b h g n m f =
       let t = some_with (where_it_holds b g n) _ m f in
       let u = some_with (branches_in_order (map (S.branch_part c) (plain_branches bs)) g t.0) (part g) m t.2 in
-      let same = only_same b n t.0 t.1 in
+      let u0 = t.0 in let one : n ≡ u0 = only_is b n t.0 t.1 in let same : n.local ≡ u0.local = cc in
       let first = branches_within bs g t.0 u.0 u.1 in
       let last = h g u.0 m u.2 in
       let all = if_room (map branch_of (plain_branches bs)) e in
@@ -182,7 +179,7 @@ module _ (c : Scope) where
   loop_within i xs b g n m f =
       let t = some_with (where_it_holds b g n) _ m f in
       let u = some_with (takes_three c i t.0) (sequence (map (marked c) (plain_lines xs)) g) m t.2 in
-      let same = only_same b n t.0 t.1 in
+      let u0 = t.0 in let one : n ≡ u0 = only_is b n t.0 t.1 in let same : n.local ≡ u0.local = cc in
       let three = three_more i t.0 u.0 u.1 in
       let rest = sequence_room xs g u.0 m u.2 in
       omega (arith, same, three, rest)
@@ -207,8 +204,8 @@ module _ (c : Scope) where
       let tree : stat_of s ≡ stat_trees l = rw (fold_out-Stat, o) refl in
       rw (part, tree) h
 
-  still : (b : Bool) (k : ℕ) (g : Sight) (n m : Next) → where_it_holds b g n ≡ Some m → m.local ≤ n.local + k
-  still b k g n m e = let same = only_same b n m e in omega (arith, same)
+  still : (b : Bool) (k : ℕ) (g : Sight) (n m : _) → where_it_holds b g n ≡ Some m → m.local ≤ n.local + k
+  still b k g n m e = let one : n ≡ m = only_is b n m e in let same : n.local ≡ m.local = cc in omega (arith, same)
 
   stat_level : (y : Stat-F StatPair BodyPair BranchPair LinePair) → LevelRoom (plain_stat y)
   stat_level (Stat-F.Call v) g n m h = still _ _ g n m h
@@ -217,13 +214,13 @@ module _ (c : Scope) where
   stat_level (Stat-F.Return v) g n m h = still _ _ g n m h
   stat_level (Stat-F.Switch v ls) g n m h = still _ _ g n m h
   stat_level (Stat-F.Block b) g n m h = b.1 g n m h
-  stat_level (Stat-F.If bs None) g n m h = if_within bs Done nothing _ (λ s k j e. let same = same_next k j e in omega (arith, same)) g n m h
+  stat_level (Stat-F.If bs None) g n m h = if_within bs Done nothing _ (λ s k j e. let one : k ≡ j = some_is k j e in let same : k.local ≡ j.local = cc in omega (arith, same)) g n m h
   stat_level (Stat-F.If bs (Some xs)) g n m h = if_within bs (sequence_tree (map line_of (plain_lines xs))) (sequence (map (marked c) (plain_lines xs))) _ (sequence_room xs) g n m h
   stat_level (Stat-F.For i start step end xs) g n m h = loop_within i xs _ g n m h
   stat_level (Stat-F.To i k xs) g n m h = loop_within i xs _ g n m h
   stat_level (Stat-F.While t xs) g n m h =
       let u = some_with (where_it_holds (tested c t).fits g n) _ m h in
-      let same = only_same (tested c t).fits n u.0 u.1 in
+      let u0 = u.0 in let one : n ≡ u0 = only_is (tested c t).fits n u.0 u.1 in let same : n.local ≡ u0.local = cc in
       let rest = sequence_room xs g u.0 m u.2 in
       omega (arith, same, rest)
   stat_level (Stat-F.Recover l) g n m h = still _ _ g n m h
@@ -247,7 +244,7 @@ module _ (c : Scope) where
       let tree : branch_of b ≡ ((tested c y.test).tree, sequence_tree (map line_of (plain_lines y.taken))) = rw (fold_out-Branch, o) refl in
       rw (part, tree) (λ g n m h.
       let u = some_with (where_it_holds (tested c y.test).fits g n) _ m h in
-      let same = only_same (tested c y.test).fits n u.0 u.1 in
+      let u0 = u.0 in let one : n ≡ u0 = only_is (tested c y.test).fits n u.0 u.1 in let same : n.local ≡ u0.local = cc in
       let rest = sequence_room y.taken g u.0 m u.2 in
       omega (arith, same, rest))
 
@@ -257,7 +254,7 @@ module _ (c : Scope) where
       let part : (marked c x).part ≡ nothing = rw (fold_out-Labelled, o, e) refl in
       let tree : line_of x ≡ (λ z. marks y.labels z) = rw (fold_out-Labelled, o, e) refl in
       let f = rw part at h in
-      let same = same_next n m f in
+      let one : n ≡ m = some_is n m f in let same : n.local ≡ m.local = cc in
       rw (tree, marks_room y.labels q) (omega (arith, same))
   line_cases x y (Some s) e o g n m h q =
       let part : (marked c x).part ≡ S.stat_part c s.0 = rw (fold_out-Labelled, o, e) refl in
@@ -297,6 +294,6 @@ locals_have_room p ms r b h =
     let outermost = some_with (labels_end 0 (map (marked (with_locals c b.locals)) (out-Body b.body).statements)) _ last.0 last.1 in
     let all = body_room (with_locals c b.locals) b.body (first_sight r outermost.0) (next_by 0 (length ms)) last.0 outermost.2 in
     by (eqb_tells last.0.local (length b.locals)) both.1 all where
-    by : {n k j : ℕ} → ((n == k) ≡ true) × (n ≡ k) ⊎ ((n == k) ≡ false) × (n ≡ k → ⊥) → (n == k) ≡ true → n ≤ j → k ≤ j
-    by (inl g) f l = omega (arith, g.1, l)
-    by (inr g) f l = absurd (let bad : true ≡ false = sym f ∙ g.0 in cc)
+      by : {n k j : ℕ} → ((n == k) ≡ true) × (n ≡ k) ⊎ ((n == k) ≡ false) × (n ≡ k → ⊥) → (n == k) ≡ true → n ≤ j → k ≤ j
+      by (inl g) f l = omega (arith, g.1, l)
+      by (inr g) f l = absurd (let bad : true ≡ false = sym f ∙ g.0 in cc)

@@ -1,18 +1,18 @@
 -- What code weighs: its words and its unmarked instructions, with something to spare.
-use Rattle.std.proofs.Common.{◌≡◌, ℕ, ◌+◌, ◌*◌, ◌≤◌, List, [], ◌∷◌, ◌++◌, map, sum, refl, sym, ap, ◌∙◌, arith}
+use Rattle.std.proofs.Common.{◌≡◌, ℕ, ◌+◌, ◌*◌, ◌≤◌, List, [], ◌∷◌, ◌++◌, map, sum, sym, zero-add, arith}
 use Rattle.std.proofs.lemmas.List.Sums.{sum-map, sum_by-cons}
 use Rattle.rt_icode.specs.declared.ins.Ins.{Ins}
 use Rattle.rt_icode.specs.Weights.{words_of, unmarked_of}
 
-total_cons : (f : Ins → ℕ) (i : Ins) (is : List Ins) → sum (map f (i ∷ is)) ≡ f i + sum (map f is)
+pub total_cons : (f : Ins → ℕ) (i : Ins) (is : List Ins) → sum (map f (i ∷ is)) ≡ f i + sum (map f is)
 total_cons f i is =
     let a = sum-map f (i ∷ is) in
     let b = sum_by-cons f i is in
     let c = sum-map f is in
     omega arith
 
-total_append : (f : Ins → ℕ) (xs ys : List Ins) → sum (map f (xs ++ ys)) ≡ sum (map f xs) + sum (map f ys)
-total_append f [] ys = refl
+pub total_append : (f : Ins → ℕ) (xs ys : List Ins) → sum (map f (xs ++ ys)) ≡ sum (map f xs) + sum (map f ys)
+total_append f [] ys = sym (zero-add (sum (map f ys)))
 total_append f (x ∷ xs) ys = omega (arith, total_cons f x (xs ++ ys), total_append f xs ys, total_cons f x xs)
 
 abbrev pub words : List Ins → ℕ

@@ -1,5 +1,5 @@
 -- Code weighs no more than the nodes that it is made of.
-use Rattle.std.proofs.Common.{◌≡◌, ℕ, ◌+◌, ◌*◌, ◌≤◌, ◌==◌, Bool, true, false, if◌then◌else◌, List, [], ◌∷◌, ◌++◌, length, refl, sym, ap, subst, arith}
+use Rattle.std.proofs.Common.{ℕ, ◌+◌, ◌*◌, ◌≤◌, ◌==◌, Bool, true, false, if◌then◌else◌, List, [], ◌∷◌, ◌++◌, length, arith}
 use Rattle.rt_modes.specs.declared.mode.Mode.{Mode}
 use Rattle.rt_tree_nodes.specs.declared.operators.Op1.{Op1}
 use Rattle.rt_tree_nodes.specs.declared.operators.Op1.TheVariants as one
@@ -9,20 +9,19 @@ use Rattle.rt_tree_nodes.specs.Tree.{Term, Num, Str, Name, Own, Get, Ref, RefRow
 use Rattle.rt_tree_nodes.specs.Typing.{is_byte}
 use Rattle.rt_tree.specs.Weights.{read_weight, operator_weight, term_weight, path_weight, terms_weight, condition_weight, statement_weight, sequence_weight}
 use Rattle.rt_work.specs.Task.{how_many}
-use Rattle.rt_icode.specs.declared.ins.Fixed.{Fixed}
 use Rattle.rt_icode.specs.declared.ins.Width.{Width}
 use Rattle.rt_icode.specs.declared.ins.Width.TheVariants as width
 use Rattle.rt_icode.specs.declared.ins.Ins.{Ins}
 use Rattle.rt_icode.specs.declared.ins.Ins.TheVariants as ins
-use Rattle.rt_icode.specs.Weights.{scale_words}
+use Rattle.rt_icode.specs.Weights.{scale_words, words_of, unmarked_of}
 use Rattle.rt_lower.specs.declared.layouts.Layouts.{Layouts}
 use Rattle.rt_lower.specs.declared.site.Site.{Site}
 use Rattle.rt_lower.specs.declared.site.Site.TheVariants as site
 use Rattle.rt_lower.specs.Layouts.{field_offset, bytes}
-use Rattle.rt_lower.specs.Values.{width_of, field_site, site_of, wanted, is_stacked, read, written, reached, row_reached, told, element, altered, merged, is_sure, divided, value, address, values, alone}
-use Rattle.rt_lower.specs.Code.{Leads, nowhere, cases, for_head, condition, statement, sequence}
+use Rattle.rt_lower.specs.Values.{width_of, field_site, site_of, wanted, read, written, reached, row_reached, told, element, altered, merged, is_sure, divided, value, address, values, alone}
+use Rattle.rt_lower.specs.Code.{Leads, cases, for_head, condition, statement, sequence}
 use Rattle.rt_lower_laws.specs.Laws.{room, room_in}
-use Rattle.rt_lower_laws.proofs.Sums.{Light, light_none, light_one, light_both, light_behind, light_more}
+use Rattle.rt_lower_laws.proofs.Sums.{total_append, Light, light_none, light_one, light_both, light_behind, light_more}
 
 -- ---- single instructions
 
@@ -77,13 +76,12 @@ merged_light two.Nev = light_one _ 0 8 (omega arith) (omega arith)
 
 divided_light : (o : Op2) (sure : Bool) → Light (divided o sure) 0 8
 divided_light o true = light_one _ 0 8 (omega arith) (omega arith)
-divided_light o false =
-    light_behind _ _ 0 4 0 8 (light_behind _ _ 0 2 0 4 (light_one ins.Report 0 2 (omega arith) (omega arith)) (omega arith) (omega arith)) (omega arith) (omega arith)
+divided_light o false = record { words = omega arith; made = omega arith }
 
 -- ---- places: those whose address isn't wanted weigh something
 
 -- what a place weighs whose address isn't wanted
-Weighs : Site → ℕ → Type 0
+abbrev Weighs : Site → ℕ → Type 0
 Weighs site.Stacked w = Unit {0}
 Weighs _ w = 3 ≤ w
 
@@ -98,7 +96,7 @@ read_light m s code w h k = by (is_byte m) s h where
   by false site.Stacked g = light_both code _ 1 0 w 1 1 (1 + w) k (light_one _ 0 1 (omega arith) (omega arith)) (omega arith) (omega arith)
 
 reached_light : (s : Site) (code : List Ins) (w : ℕ) → Light code 1 w → Light (wanted s code ++ reached s) 1 (13 + w)
-reached_light (site.Own j) code w k = light_more [] 0 0 1 (13 + w) (record { words = omega arith; made = omega arith }) (omega arith) (omega arith)
+reached_light (site.Own j) code w k = record { words = omega arith; made = omega arith }
 reached_light (site.Fixed f) code w k = light_one _ 1 (13 + w) (omega arith) (omega arith)
 reached_light site.Stacked code w k = light_both code [] 1 0 w 0 1 (13 + w) k light_none (omega arith) (omega arith)
 
@@ -179,10 +177,12 @@ module _ (l : Layouts) where
     values_light (MoreTerms v vs) = light_both (value l v) (values l vs) 1 0 (term_weight v) (terms_weight vs) 0 _ (value_light v) (values_light vs) (omega arith) (omega arith)
 
   dropped_light : (v : Term) → Light (value l v ++ ins.Discard ∷ []) 0 (term_weight v)
-  dropped_light v = record {
-    words = let h = value_light v in omega (arith, h.words, (light_both (value l v) (ins.Discard ∷ []) 1 0 (term_weight v) 1 1 (term_weight v + 1) h (light_one _ 0 1 (omega arith) (omega arith)) (omega arith) (omega arith)).words);
-    made = let h = value_light v in omega (arith, h.made);
-  }
+  dropped_light v =
+      let h = value_light v in
+      record {
+        words = omega (arith, h.words, total_append words_of (value l v) (ins.Discard ∷ []));
+        made = omega (arith, h.made, total_append unmarked_of (value l v) (ins.Discard ∷ []));
+      }
 
   pub alone_light : (v : Term) → Light (alone l v) 0 (term_weight v)
   alone_light (Apply b vs) = light_both (values l vs) _ 0 2 (terms_weight vs) 12 0 _ (values_light vs) (called b (how_many vs) false) (omega arith) (omega arith)

@@ -1,5 +1,5 @@
 -- The code of a procedure is within, and so is that of a module.
-use Rattle.std.proofs.Common.{◌≡◌, ◌⊎◌, inl, inr, ℕ, zero, suc, ◌+◌, ◌-◌, ◌*◌, ◌<◌, ◌≤◌, ◌==◌, Bool, true, false, ◌&&◌, List, [], ◌∷◌, ◌++◌, length, map, sum, Option, Some, None, slice_get, refl, sym, ap, ◌∙◌, subst, arith, length-append}
+use Rattle.std.proofs.Common.{◌≡◌, ◌⊎◌, inl, inr, ℕ, zero, suc, ◌+◌, ◌-◌, ◌*◌, ◌<◌, ◌≤◌, ◌==◌, true, false, ◌&&◌, List, [], ◌∷◌, ◌++◌, length, Option, Some, None, slice_get, refl, sym, ap, ◌∙◌, subst, arith, length-append}
 use Rattle.std.specs.List.{AllByRecursion, list_all}
 use Rattle.std.proofs.lemmas.Bool.{and_parts}
 use Rattle.std.proofs.lemmas.Bool.Decides.{eqb_tells}
@@ -8,29 +8,27 @@ use Rattle.rt_modes.specs.declared.mode.Mode.{Mode, out-Mode}
 use Rattle.rt_tree_nodes.specs.declared.brick.Brick.{Brick}
 use Rattle.rt_tree_nodes.specs.declared.brick.BrickSort.{BrickSort}
 use Rattle.rt_tree_nodes.specs.declared.brick.BrickSort.TheVariants as sort
-use Rattle.rt_tree_nodes.specs.declared.brick.Kind.{Kind}
 use Rattle.rt_tree_nodes.specs.declared.brick.ModuleParts.{ModuleParts}
 use Rattle.rt_tree_nodes.specs.declared.brick.ProcBody.{ProcBody}
 use Rattle.rt_tree_nodes.specs.Scopes.{passes, scope_of}
 use Rattle.rt_tree_nodes.specs.Tree.{Seq}
 use Rattle.rt_tree_nodes.specs.Typing.{Signature, signature_by}
-use Rattle.rt_tree.specs.Modules.{record_stands, brick_fits, sort_fits, procedure_fits, body_fits, proc_fits, is_here, stands_alone, is_short}
+use Rattle.rt_tree.specs.Modules.{record_stands, brick_fits, sort_fits, body_fits, proc_fits, is_here, stands_alone, is_short}
 use Rattle.rt_tree.specs.Weights.{sequence_weight}
-use Rattle.rt_tree.specs.Within.{SortWithin, BodyWithin, ProcWithin, parameters_by, parameters_of, tree_of}
+use Rattle.rt_tree.specs.Within.{SortWithin, ProcWithin, parameters_by, parameters_of, tree_of}
 use Rattle.rt_icode.specs.declared.ins.Division.{Division}
 use Rattle.rt_icode.specs.declared.ins.OwnItem.TheVariants as item
 use Rattle.rt_icode.specs.declared.ins.Ins.{Ins}
 use Rattle.rt_icode.specs.declared.ins.Ins.TheVariants as ins
-use Rattle.rt_icode.specs.declared.procedure.IProc.{IProc}
 use Rattle.rt_icode.specs.declared.procedure.IModule.{IModule}
-use Rattle.rt_icode.specs.Within.{leads, goes_on, is_enter, IsWithin, AreWithin}
+use Rattle.rt_icode.specs.Within.{leads, goes_on, is_enter, IsWithin}
 use Rattle.rt_lower.specs.declared.layouts.Layouts.{Layouts}
-use Rattle.rt_lower.specs.Code.{leads_in, sequence, extent, code_of, procedure, procedure_with, procedure_by, procedures, IsIntermediate}
+use Rattle.rt_lower.specs.Code.{leads_in, sequence, code_of, procedure, procedure_by, procedures}
 use Rattle.rt_lower.proofs.Lengths.{sequence_length}
-use Rattle.rt_lower_laws.specs.Laws.{CodeIsWithin, NoneRecovers, FramesAloneDiffer, IsPlain, is_plain, room_in}
+use Rattle.rt_lower_laws.specs.Laws.{CodeIsWithin, NoneRecovers, IsPlain, is_plain, room_in}
 use Rattle.rt_lower_laws.proofs.Sums.{Light, light_one, light_both, light_behind}
-use Rattle.rt_lower_laws.proofs.Calm.{reported, reported_at, first_true, second_true, both_true, plainly}
-use Rattle.rt_lower_laws.proofs.Leading.{Fine, FineFrom, Led, is_division, calm_led, led_both, sequence_led, lead_below, some_same}
+use Rattle.rt_lower_laws.proofs.Calm.{reported, reported_at, first_true, second_true, plainly}
+use Rattle.rt_lower_laws.proofs.Leading.{Fine, FineFrom, Led, calm_led, led_both, sequence_led, lead_below, some_same}
 use Rattle.rt_lower_laws.proofs.Weighing.{sequence_light}
 use Rattle.rt_lower_laws.proofs.Rooms.{locals_have_room}
 
@@ -39,11 +37,13 @@ fine_at n k j [] i h e = absurd cc
 fine_at n k zero (x ∷ is) i h e = let same : x ≡ i = cc in let at : k ≡ k + 0 = omega arith in subst (λ m. Fine n m i) at (subst (λ y. Fine n k y) same h.0)
 fine_at n k (suc j) (x ∷ is) i h e = let at : k + 1 + j ≡ k + suc j = omega arith in subst (λ m. Fine n m i) at (fine_at n (k + 1) j is i h.1 e)
 
--- a report stands behind its division
-record HasReport (is : List Ins) (k : ℕ) : Type 0 where
-  read : slice_get is (k + 1) ≡ Some (ins.LoadOwn item.Erp)
-  report : slice_get is (k + 2) ≡ Some ins.Report
+same_or_not : (n m : ℕ) → (n ≡ m) ⊎ (n ≡ m → ⊥)
+same_or_not n m = told (eqb_tells n m) where
+  told : ((n == m) ≡ true) × (n ≡ m) ⊎ ((n == m) ≡ false) × (n ≡ m → ⊥) → (n ≡ m) ⊎ (n ≡ m → ⊥)
+  told (inl h) = inl h.1
+  told (inr h) = inr h.1
 
+-- a report stands behind its division
 pair_at : (is : List Ins) (d : Division) → reported_at (ins.DivideOr d) is ≡ true → (slice_get is 0 ≡ Some (ins.LoadOwn item.Erp)) × (slice_get is 1 ≡ Some ins.Report)
 pair_at [] d e = absurd cc
 pair_at (i ∷ []) d e = absurd cc
@@ -97,14 +97,7 @@ module _ (l : Layouts) (b params locals : ℕ) (q : Seq) where
   plain (suc k) i e = (fine k i e).plain
 
   next : (k : ℕ) (i : Ins) → slice_get code k ≡ Some i → goes_on i ≡ true → k + 1 < length code
-  next k i e g = by (split k) where
-    split : (n : ℕ) → (n ≡ 1 + length body) ⊎ (n ≡ 1 + length body → ⊥)
-    split n = told (eqb_tells n (1 + length body))
-
-    told : {n m : ℕ} → ((n == m) ≡ true) × (n ≡ m) ⊎ ((n == m) ≡ false) × (n ≡ m → ⊥) → (n ≡ m) ⊎ (n ≡ m → ⊥)
-    told (inl h) = inl h.1
-    told (inr h) = inr h.1
-
+  next k i e g = by (same_or_not k (1 + length body)) where
     by : (k ≡ 1 + length body) ⊎ (k ≡ 1 + length body → ⊥) → k + 1 < length code
     by (inl h) = absurd (
         let last : slice_get code (suc (length body)) ≡ Some ins.Leave = last_is body ins.Leave in

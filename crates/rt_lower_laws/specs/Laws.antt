@@ -1,10 +1,10 @@
 -- What the intermediate code of a typed module keeps.
-use Rattle.std.specs.Prelude.{◌≡◌, ℕ, ◌+◌, ◌≤◌, ◌-◌, Bool, true, false, List, [], ◌∷◌, ◌++◌, length, Option, Some, slice_get, if◌then◌else◌}
+use Rattle.std.specs.Prelude.{◌≡◌, ℕ, ◌+◌, ◌≤◌, Bool, true, false, List, [], ◌∷◌, length, Option, Some, slice_get, if◌then◌else◌}
 use Rattle.std.specs.List.{AllByRecursion}
 use Rattle.rt_modes.specs.declared.mode.Mode.{Mode}
 use Rattle.rt_tree_nodes.specs.declared.brick.ModuleParts.{ModuleParts}
 use Rattle.rt_tree_nodes.specs.declared.brick.ProcBody.{ProcBody}
-use Rattle.rt_tree_nodes.specs.Scopes.{Scope, scope_of}
+use Rattle.rt_tree_nodes.specs.Scopes.{scope_of}
 use Rattle.rt_tree_nodes.specs.Tree.{Stmt, Keep, Clear, Inner, If, For, To, While, Seq, Done, Then, Mark}
 use Rattle.rt_tree.specs.Modules.{every_node_fits, proc_fits}
 use Rattle.rt_tree.specs.Within.{Within, tree_of}

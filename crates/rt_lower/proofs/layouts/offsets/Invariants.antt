@@ -1,4 +1,4 @@
-use Rattle.std.proofs.Common.{◌≡◌, ℕ, ◌≤◌, Some, length}
+use Rattle.std.proofs.Common.{◌≡◌, ℕ, Some, length}
 use Rattle.std.specs.Prelude.{slice_get}
 use Rattle.rt_sizes.specs.Capped.{AreSizes}
 use Rattle.rt_sizes.specs.Sizes.{Table, Begins}

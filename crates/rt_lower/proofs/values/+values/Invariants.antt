@@ -1,4 +1,4 @@
-use Rattle.std.proofs.Common.{ℕ, ◌+◌, ◌*◌}
+use Rattle.std.proofs.Common.{◌+◌, ◌*◌}
 use Rattle.rt_work.specs.Nodes as n
 use Rattle.rt_lower.proofs.Sizes.{size_t, size_p, size_ts}
 use Rattle.rt_lower.proofs.values.+values.Given as goal
