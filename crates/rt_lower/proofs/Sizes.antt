@@ -13,7 +13,7 @@ abbrev mutual
   size_t (Two o a b) = size_t a + size_t b + 1
   size_t (Over o a b) = size_t a + size_t b + 1
   size_t (Apply b vs) = size_ts vs + 1
-  size_t (ApplyBy f vs) = size_t f + size_ts vs + 1
+  size_t (ApplyBy m f vs) = size_t f + size_ts vs + 1
   size_t _ = 1
 
   pub size_p : Path → ℕ

@@ -147,7 +147,7 @@ module _ (l : Layouts) where
     value (Two o a b) = value a ++ (value b ++ merged o ∷ [])
     value (Over o a b) = value a ++ (value b ++ divided o (is_sure b))
     value (Apply b vs) = values vs ++ ins.Invoke b (how_many vs) true ∷ []
-    value (ApplyBy f vs) = value f ++ (values vs ++ ins.InvokeBy (how_many vs) true ∷ [])
+    value (ApplyBy m f vs) = value f ++ (values vs ++ ins.InvokeBy (how_many vs) true ∷ [])
 
     pub address : Path → List Ins
     address (FieldOf p r k) = address p ++ ins.Into k (field_offset l r k) ∷ []
@@ -163,5 +163,5 @@ module _ (l : Layouts) where
   -- a call that stands alone: its result isn't kept, and what isn't a call is dropped
   abbrev pub alone : Term → List Ins
   alone (Apply b vs) = values vs ++ ins.Invoke b (how_many vs) false ∷ []
-  alone (ApplyBy f vs) = value f ++ (values vs ++ ins.InvokeBy (how_many vs) false ∷ [])
+  alone (ApplyBy m f vs) = value f ++ (values vs ++ ins.InvokeBy (how_many vs) false ∷ [])
   alone v = value v ++ ins.Discard ∷ []

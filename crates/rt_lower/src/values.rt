@@ -198,7 +198,7 @@ pub(crate) fn term(
             let count = terms(alloc, layouts, code, arguments)?;
             put(code, invoke(*brick, count, true))
         }
-        TermNode::ApplyBy(procedure, arguments) => {
+        TermNode::ApplyBy(_, procedure, arguments) => {
             self::term(alloc, layouts, code, procedure)?;
             let count = terms(alloc, layouts, code, arguments)?;
             put(code, invoke_by(count, true))
@@ -334,7 +334,7 @@ pub(crate) fn alone(
             let count = terms(alloc, layouts, code, arguments)?;
             put(code, invoke(*brick, count, false))
         }
-        TermNode::ApplyBy(procedure, arguments) => {
+        TermNode::ApplyBy(_, procedure, arguments) => {
             term(alloc, layouts, code, procedure)?;
             let count = terms(alloc, layouts, code, arguments)?;
             put(code, invoke_by(count, false))

@@ -184,7 +184,7 @@ module _ (l : Layouts) where
     value_calm (Two o a b) = calm_both _ _ (value_calm a) (calm_both _ _ (value_calm b) (merged_calm o))
     value_calm (Over o a b) = calm_both _ _ (value_calm a) (calm_both _ _ (value_calm b) (divided_calm o (is_sure b)))
     value_calm (Apply b vs) = calm_both _ _ (values_calm vs) (plainly _ refl refl)
-    value_calm (ApplyBy f vs) = calm_both _ _ (value_calm f) (calm_both _ _ (values_calm vs) (plainly _ refl refl))
+    value_calm (ApplyBy m f vs) = calm_both _ _ (value_calm f) (calm_both _ _ (values_calm vs) (plainly _ refl refl))
 
     pub address_calm : (p : Path) → Calm (address l p)
     address_calm (ItemAt b i) = calm_none
@@ -200,7 +200,7 @@ module _ (l : Layouts) where
 
   pub alone_calm : (v : Term) → Calm (alone l v)
   alone_calm (Apply b vs) = calm_both _ _ (values_calm vs) (plainly _ refl refl)
-  alone_calm (ApplyBy f vs) = calm_both _ _ (value_calm f) (calm_both _ _ (values_calm vs) (plainly _ refl refl))
+  alone_calm (ApplyBy m f vs) = calm_both _ _ (value_calm f) (calm_both _ _ (values_calm vs) (plainly _ refl refl))
   alone_calm v = calm_both _ _ (value_calm v) (plainly _ refl refl)
 
   pub assigned_calm : (z : Width) (p : Path) (v : Term) → Calm (wanted (site_of l p) (address l p) ++ (value l v ++ written z (site_of l p) ∷ []))

@@ -159,7 +159,7 @@ module _ (l : Layouts) where
     value_light (Over o a b) =
         light_both (value l a) _ 1 1 (term_weight a) (term_weight b + 8) 1 _ (value_light a) (light_both (value l b) _ 1 0 (term_weight b) 8 1 (term_weight b + 8) (value_light b) (divided_light o (is_sure b)) (omega arith) (omega arith)) (omega arith) (omega arith)
     value_light (Apply b vs) = light_both (values l vs) _ 0 2 (terms_weight vs) 12 1 _ (values_light vs) (called b (how_many vs) true) (omega arith) (omega arith)
-    value_light (ApplyBy f vs) =
+    value_light (ApplyBy m f vs) =
         light_both (value l f) _ 1 0 (term_weight f) (terms_weight vs + 8) 1 _ (value_light f) (light_both (values l vs) _ 0 0 (terms_weight vs) 8 0 (terms_weight vs + 8) (values_light vs) (called_by (how_many vs) true) (omega arith) (omega arith)) (omega arith) (omega arith)
 
     pub address_light : (p : Path) → Light (address l p) 1 (path_weight p)
@@ -186,7 +186,7 @@ module _ (l : Layouts) where
 
   pub alone_light : (v : Term) → Light (alone l v) 0 (term_weight v)
   alone_light (Apply b vs) = light_both (values l vs) _ 0 2 (terms_weight vs) 12 0 _ (values_light vs) (called b (how_many vs) false) (omega arith) (omega arith)
-  alone_light (ApplyBy f vs) =
+  alone_light (ApplyBy m f vs) =
       light_both (value l f) _ 1 0 (term_weight f) (terms_weight vs + 8) 0 _ (value_light f) (light_both (values l vs) _ 0 0 (terms_weight vs) 8 0 (terms_weight vs + 8) (values_light vs) (called_by (how_many vs) false) (omega arith) (omega arith)) (omega arith) (omega arith)
   alone_light v = dropped_light v
 
