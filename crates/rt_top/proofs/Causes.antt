@@ -4,15 +4,17 @@ use Rattle.std.specs.Prelude.{codes}
 use Rattle.rt_deeds.specs.Deeds.{Deed, Writes, Puts, Outside, IsLater, Performed}
 use Rattle.rt_deeds.proofs.Changes.{later}
 use Rattle.rt_report.specs.declared.fault.FaultLine.{FaultLine}
-use Rattle.rt_report.specs.Faults.{status_of}
+use Rattle.rt_report.specs.declared.fault.FaultLine.TheVariants as fault
+use Rattle.rt_report.specs.Faults.{status_of, fault_text}
 use Rattle.rt_report.specs.Reports.{run_status, any_failed}
 use Rattle.rt_rules.specs.declared.task.TaskRow.{TaskRow}
 use Rattle.rt_run.specs.declared.machine.End.{End}
 use Rattle.rt_run.specs.declared.machine.End.TheVariants.{Ended, Limit, Stalled, Fault, ReadFault, WriteFault}
 use Rattle.rt_words.specs.Causes.{Rose}
-use Rattle.rt_top.specs.Calls.{Call, before, after, NothingDone, Does, Answers, all_done, one_failed}
-use Rattle.rt_top.specs.Reading.{missing, too_long, RefusesImage, RefusesTicks}
+use Rattle.rt_top.specs.Calls.{Call, before, after, NothingDone, Does, Says, Answers, all_done, one_failed}
+use Rattle.rt_top.specs.Reading.{missing, too_long, RefusesImage, RefusesObject, RefusesTicks}
 use Rattle.rt_top.specs.Running.{Asked, Refuses, RunEnds, no_memory, refused, unread, carried}
+use Rattle.rt_top.specs.Showing.{ShowEnds}
 use Rattle.rt_top.specs.Top.{HasReadFault, HasWriteFault}
 use Rattle.rt_top.proofs.Ends.{rose_on}
 use Rattle.rt_top.proofs.Leaves.{has_failed}
@@ -107,6 +109,23 @@ run_caused c r status (unread {name = name} turn rose k) = done_or_failed c _ 20
 run_caused c r status (carried has ticks k) =
     done_or_failed c _ (run_status k.end ((k.last).rules).tasks) status k.middle k.later k.reported
     (run_ended c k.end ((k.last).rules).tasks (λ e. HasReadFault.input (k.read_failed e)) (λ e. HasWriteFault.output (rose_on c.faults (k.middle).faults c.faults_after (k.write_failed e) (later_after c _ _ status k.middle k.reported).faults)))
+
+-- ---- objects
+
+object_refused : (c : Call) (name : List ℕ) (f : FaultLine) → RefusesObject c.files name f → Caused c (status_of f)
+object_refused c name f (RefusesObject.no_file (missing h)) = by_read c 20 refl (HasReadFault.missing name h)
+object_refused c name f (RefusesObject.no_file (too_long h)) = middling c 12 (omega arith) (omega arith)
+object_refused c name f (RefusesObject.no_object h k) = middling c 12 (omega arith) (omega arith)
+object_refused c name f (RefusesObject.other_version h k) = middling c 12 (omega arith) (omega arith)
+
+said : (c : Call) (text : List ℕ) (n status : ℕ) → Says text n c status → Caused c n → Caused c status
+said c text n status h k = done_or_failed c (Puts text) n status (before c) (same (before c)) h.tells k
+
+pub show_caused : (c : Call) (name : List ℕ) (status : ℕ) → ShowEnds c name status → Caused c status
+show_caused c name status (ShowEnds.no_memory h) = by_memory c 30 refl h
+show_caused c name status (ShowEnds.refused {f = f} h k) = said c (fault_text f) (status_of f) status k (object_refused c name f h)
+show_caused c name status (ShowEnds.unread rose k) = said c (fault_text (fault.Unread name)) 20 status k (by_read c 20 refl (HasReadFault.read name rose))
+show_caused c name status (ShowEnds.shown {text = text} has is k) = said c text 0 status k (small c 0 (omega arith))
 
 -- ---- words that no command has
 

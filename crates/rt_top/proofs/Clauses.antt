@@ -1,5 +1,5 @@
 -- What the program promises, by what its words are.
-use Rattle.std.proofs.Common.{◌≡◌, ◌⊎◌, inl, inr, ℕ, List, Option, refl, sym, ap, subst}
+use Rattle.std.proofs.Common.{◌≡◌, ◌⊎◌, inl, inr, ℕ, List, Option, Bor, refl, sym, ap, subst}
 use Rattle.rt_commands.specs.Commands.{IsCommand}
 use Rattle.rt_commands.specs.declared.command.Command.{Command}
 use Rattle.rt_commands.specs.declared.command.Command.TheVariants as command
@@ -17,8 +17,9 @@ use Rattle.rt_outside.specs.Files.{Files, IsTold, Lacks}
 use Rattle.rt_words.specs.Causes.{Rose}
 use Rattle.rt_top.specs.Calls.{Call, without_input, KeepsInput, Says}
 use Rattle.rt_top.specs.Running.{Asked, asked, IsRun, RunEnds}
+use Rattle.rt_top.specs.Showing.{IsShow, ShowEnds}
 use Rattle.rt_top.specs.Top.{asked_go, IsBuilt, IsNoCommand, words_line, HasReadFault, HasWriteFault, Headline}
-use Rattle.rt_top.proofs.Causes.{run_caused, ten_only}
+use Rattle.rt_top.proofs.Causes.{run_caused, show_caused, ten_only}
 
 abbrev go_command : Go → Command
 go_command g = command.Go g.system g.ticks g.limit g.name
@@ -38,6 +39,19 @@ one_run words r q a b = by (one_command words (run_command r) (run_command q) a 
 
     by : run_command r ≡ run_command q → r ≡ q
     by e = ap asked_or e
+
+go_show : (words : List (List ℕ)) (g : Go) (name : List ℕ) → IsGo words g → IsShow words name → ⊥
+go_show words g name a b = let e = one_command words (go_command g) (command.Show name) a b in cc
+
+run_show : (words : List (List ℕ)) (r : Asked) (name : List ℕ) → IsRun words r → IsShow words name → ⊥
+run_show words r name a b = let e = one_command words (run_command r) (command.Show name) a b in cc
+
+one_show : (words : List (List ℕ)) (name other : List ℕ) → IsShow words name → IsShow words other → name ≡ other
+one_show words name other a b = ap shown_or (one_command words (command.Show name) (command.Show other) a b)
+  where
+    shown_or : Command → List ℕ
+    shown_or (command.Show object) = object
+    shown_or c = name
 
 -- ---- go
 
@@ -67,6 +81,7 @@ module _ (words : List (List ℕ)) (c : Call) (status : ℕ) where
   went g is input h = record {
     goes = λ q also. record { headline = h; input = input };
     runs = λ r also. absurd (clash words g r is also);
+    shows = λ name also. absurd (go_show words g name is also);
     none = λ none. absurd (none (go_command g) tt is);
     ten = λ e. absurd (h.never_ten e);
     twenty = read_fault h.twenty;
@@ -79,7 +94,21 @@ module _ (words : List (List ℕ)) (c : Call) (status : ℕ) where
       let k = run_caused c r status h in record {
         goes = λ g also. absurd (clash words g r also is);
         runs = λ q also. subst (λ x. RunEnds c x status) (one_run words r q is also) h;
+        shows = λ name also. absurd (run_show words r name is also);
         none = λ none. absurd (none (run_command r) tt is);
+        ten = λ e. absurd (k.ten e);
+        twenty = k.twenty;
+        twenty_one = k.twenty_one;
+        thirty = k.thirty;
+      }
+
+  pub showed : (name : List ℕ) → IsShow words name → ShowEnds c name status → Headline words c status
+  showed name is h =
+      let k = show_caused c name status h in record {
+        goes = λ g also. absurd (go_show words g name also is);
+        runs = λ r also. absurd (run_show words r name also is);
+        shows = λ other also. subst (λ x. ShowEnds c x status) (one_show words name other is also) h;
+        none = λ none. absurd (none (command.Show name) tt is);
         ten = λ e. absurd (k.ten e);
         twenty = k.twenty;
         twenty_one = k.twenty_one;
@@ -91,6 +120,7 @@ module _ (words : List (List ℕ)) (c : Call) (status : ℕ) where
       let k = ten_only c status h.tells in record {
         goes = λ g is. absurd (none (go_command g) tt is);
         runs = λ r is. absurd (none (run_command r) tt is);
+        shows = λ name is. absurd (none (command.Show name) tt is);
         none = λ also. h;
         ten = λ e. none;
         twenty = k.twenty;
@@ -106,18 +136,21 @@ lent_go words it w g e q h = subst (IsGo words) (sym q) (subst (λ (t : CommandW
 pub lent_run : (words : List (List ℕ)) (it : CommandWords) (w : TimedWords) → it ≡ lent.Run w → IsCommand words (said it) → IsRun words (asked w)
 lent_run words it w e h = subst (λ (t : CommandWords). IsCommand words (said t)) e h
 
+pub lent_show : (words : List (List ℕ)) (it : CommandWords) (w : Bor (List ℕ)) → it ≡ lent.Show w → IsCommand words (said it) → IsShow words w.now
+lent_show words it w e h = subst (λ (t : CommandWords). IsCommand words (said t)) e h
+
 -- words of a command that isn't built
 pub no_other : (words : List (List ℕ)) (d : Command) → (IsBuilt d → ⊥) → IsCommand words d → IsNoCommand words
 no_other words d not h c built is = not (subst IsBuilt (one_command words c d is h) built)
 
-pub lent_other : (words : List (List ℕ)) (it : CommandWords) → ((w : TimedWords) → it ≡ lent.Go w → ⊥) → ((w : TimedWords) → it ≡ lent.Run w → ⊥) → IsCommand words (said it) → IsNoCommand words
-lent_other words (lent.Go w) a b h = absurd (a w refl)
-lent_other words (lent.Run w) a b h = absurd (b w refl)
-lent_other words (lent.Compile source object) a b h = no_other words (command.Compile source.now object.now) (λ built. built) h
-lent_other words (lent.Link system image map) a b h = no_other words (command.Link system.now image.now map.now) (λ built. built) h
-lent_other words (lent.Stacks system) a b h = no_other words (command.Stacks system.now) (λ built. built) h
-lent_other words (lent.Show object) a b h = no_other words (command.Show object.now) (λ built. built) h
-lent_other words (lent.Gen count name) a b h = no_other words (command.Gen count name.now) (λ built. built) h
+pub lent_other : (words : List (List ℕ)) (it : CommandWords) → ((w : TimedWords) → it ≡ lent.Go w → ⊥) → ((w : TimedWords) → it ≡ lent.Run w → ⊥) → ((w : Bor (List ℕ)) → it ≡ lent.Show w → ⊥) → IsCommand words (said it) → IsNoCommand words
+lent_other words (lent.Go w) a b d h = absurd (a w refl)
+lent_other words (lent.Run w) a b d h = absurd (b w refl)
+lent_other words (lent.Compile source object) a b d h = no_other words (command.Compile source.now object.now) (λ built. built) h
+lent_other words (lent.Link system image map) a b d h = no_other words (command.Link system.now image.now map.now) (λ built. built) h
+lent_other words (lent.Stacks system) a b d h = no_other words (command.Stacks system.now) (λ built. built) h
+lent_other words (lent.Show object) a b d h = absurd (d object refl)
+lent_other words (lent.Gen count name) a b d h = no_other words (command.Gen count name.now) (λ built. built) h
 
 pub no_command : (words : List (List ℕ)) → ((c : Command) → IsCommand words c → ⊥) → IsNoCommand words
 no_command words none c built is = none c is

@@ -1,6 +1,6 @@
--- How `run` ends, from the moments of its steps.
+-- How `run` and `show` end, from the moments of its steps.
 use Rattle.std.proofs.Common.{◌≡◌, ◌⊎◌, inl, inr, ℕ, ◌≤◌, List, [], Option, refl, sym, subst, ◌∙◌, arith}
-use Rattle.rt_deeds.specs.Deeds.{Writes, Outside}
+use Rattle.rt_deeds.specs.Deeds.{Deed, Outside}
 use Rattle.rt_deeds.proofs.Changes.{earlier}
 use Rattle.rt_image.specs.declared.image.ImageParts.{ImageParts}
 use Rattle.rt_outside.specs.Files.{Files}
@@ -9,8 +9,11 @@ use Rattle.rt_report.specs.declared.fault.FaultLine.TheVariants as fault
 use Rattle.rt_words.specs.Causes.{Rose}
 use Rattle.rt_top.specs.declared.reading.Unaccepted.{Unaccepted}
 use Rattle.rt_top.specs.declared.reading.Unaccepted.TheVariants.{Refused, Failed}
-use Rattle.rt_top.specs.Calls.{Call, outside, NothingDone, Reports}
-use Rattle.rt_top.specs.Running.{Asked, IsInTurn, IsRefused, IsRefusal, IsCarried, RunEnds, no_memory, refused, unread}
+use Rattle.rt_report.specs.Faults.{status_of, fault_text}
+use Rattle.rt_top.specs.Calls.{Call, outside, Does, Says}
+use Rattle.rt_top.specs.Reading.{RefusesObject, IsUnaccepted}
+use Rattle.rt_top.specs.Running.{Asked, IsInTurn, IsRefused, IsRefusal, IsCarried, RunEnds, refused, unread}
+use Rattle.rt_top.specs.Showing.{ShowEnds}
 
 -- counts that rose stay so
 pub rose_on : (a b c : ℕ) → Rose a b → b ≤ c → Rose a c
@@ -36,13 +39,26 @@ carried_from d files reads writes r image gaps status e w k = record {
 }
 
 -- where the store told no other files and no count fell since
-pub reported_from : (name text : List ℕ) (n : ℕ) (files files2 : Option Files) (writes writes2 : List ℕ → ℕ) (written : Option (List ℕ)) (faults : ℕ) (b : Outside) (status : ℕ) → files2 ≡ files → ((m : List ℕ) → writes m ≤ writes2 m) → Reports name text n (outside files2 writes2 written faults) b status → Reports name text n (outside files writes written faults) b status
-reported_from name text n files files2 writes writes2 written faults b status e w h = record {
+pub done_from : (d : Deed) (n : ℕ) (files files2 : Option Files) (writes writes2 : List ℕ → ℕ) (written : Option (List ℕ)) (faults : ℕ) (b : Outside) (status : ℕ) → files2 ≡ files → ((m : List ℕ) → writes m ≤ writes2 m) → Does d n (outside files2 writes2 written faults) b status → Does d n (outside files writes written faults) b status
+done_from d n files files2 writes writes2 written faults b status e w h = record {
   all = h.all;
-  performed = earlier (Writes name text) [] (outside files writes written faults) (outside files2 writes2 written faults) b h.all
+  performed = earlier d [] (outside files writes written faults) (outside files2 writes2 written faults) b h.all
       (record { files = sym e; written = refl; later = record { writes = w; faults = omega arith } }) h.performed;
   answer = h.answer;
 }
+
+-- an ending with the answer 30 where memory was wanted, or another
+left_by : (Ends : ℕ → Type 0) (status : ℕ) (Wanted Told : Type 0) → (Wanted → Ends 30) → (Told → Ends status) → ((status ≡ 30) × Wanted) ⊎ Told → Ends status
+left_by Ends status Wanted Told p q (inl h) = subst Ends (sym h.0) (p h.1)
+left_by Ends status Wanted Told p q (inr h) = q h
+
+pub run_left : (d : Call) (r : Asked) (status : ℕ) (Wanted Told : Type 0) → (Wanted → RunEnds d r 30) → (Told → RunEnds d r status) → ((status ≡ 30) × Wanted) ⊎ Told → RunEnds d r status
+run_left d r status Wanted Told p q h = left_by (RunEnds d r) status Wanted Told p q h
+
+pub show_left : (d : Call) (name : List ℕ) (status : ℕ) (Wanted Told : Type 0) → (Wanted → ShowEnds d name 30) → (Told → ShowEnds d name status) → ((status ≡ 30) × Wanted) ⊎ Told → ShowEnds d name status
+show_left d name status Wanted Told p q h = left_by (ShowEnds d name) status Wanted Told p q h
+
+-- ---- run
 
 -- why files aren't accepted: a fault that refuses them, or one that tells of a failed read, whose count has risen since
 module _ (d : Call) (now : List ℕ → ℕ) (r : Asked) (f : FaultLine) (status : ℕ) where
@@ -55,7 +71,13 @@ module _ (d : Call) (now : List ℕ → ℕ) (r : Asked) (f : FaultLine) (status
       by : ((name : List ℕ) × (f ≡ fault.Unread name) × IsInTurn d.files r name × Rose (d.reads name) (now name)) → RunEnds d r status
       by (name, is, turn, rose) = unread {name = name} {status = status} turn (rose_on (d.reads name) (now name) (d.reads_after name) rose (later name)) (subst (λ g. IsRefusal d r g status) is k)
 
--- where the report's memory was wanted, or not
-pub left_by : (d : Call) (r : Asked) (status : ℕ) (Wanted Told : Type 0) → (Wanted → NothingDone d) → (Told → RunEnds d r status) → ((status ≡ 30) × Wanted) ⊎ Told → RunEnds d r status
-left_by d r status Wanted Told p q (inl h) = subst (RunEnds d r) (sym h.0) (no_memory (p h.1))
-left_by d r status Wanted Told p q (inr h) = q h
+-- ---- show
+
+module _ (d : Call) (name : List ℕ) (f : FaultLine) (status : ℕ) where
+  pub object_refused : (u : Unaccepted) → u ≡ Refused f → IsUnaccepted (RefusesObject d.files name) name d.reads d.reads_after u → Says (fault_text f) (status_of f) d status → ShowEnds d name status
+  object_refused u e h k = ShowEnds.refused {f = f} {status = status} (subst (IsUnaccepted (RefusesObject d.files name) name d.reads d.reads_after) e h) k
+
+  pub object_unread : (u : Unaccepted) → u ≡ Failed f → IsUnaccepted (RefusesObject d.files name) name d.reads d.reads_after u → Says (fault_text f) (status_of f) d status → ShowEnds d name status
+  object_unread u e h k =
+      let both = subst (IsUnaccepted (RefusesObject d.files name) name d.reads d.reads_after) e h in
+      ShowEnds.unread {status = status} both.1 (subst (λ g. Says (fault_text g) (status_of g) d status) both.0 k)

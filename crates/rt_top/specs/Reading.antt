@@ -2,6 +2,8 @@
 use Rattle.std.specs.Prelude.{◌≡◌, ℕ, ◌≤◌, List, length, Option}
 use Rattle.rt_image.specs.declared.image.ImageParts.{ImageParts}
 use Rattle.rt_image.specs.Grammar.{IsImage, IsNoImage}
+use Rattle.rt_object.specs.declared.object.ObjectParts.{ObjectParts}
+use Rattle.rt_object.specs.Grammar.{IsObject, IsNoObject, IsOfVersion}
 use Rattle.rt_outside.specs.declared.store.StoreError.{StoreError}
 use Rattle.rt_outside.specs.declared.store.StoreError.TheVariants as error
 use Rattle.rt_outside.specs.Files.{Files, WhereTold, IsTold, Has, Lacks, HasTooLong, longest}
@@ -35,6 +37,18 @@ module _ (files : Option Files) where
   pub data RefusesImage (name : List ℕ) : FaultLine → Type 0 where
     no_file : {f : FaultLine} → IsNoFile kind.Image name f → RefusesImage name f
     no_image : {bytes : List ℕ} {at : ℕ} → IsFile name bytes → IsNoImage bytes at → RefusesImage name (fault.BadImage name at)
+
+  -- ---- objects
+
+  pub record HasObject (name : List ℕ) (object : ObjectParts) : Type 0 where
+    pub bytes : List ℕ
+    pub file : IsFile name bytes
+    pub is_object : IsObject bytes object
+
+  pub data RefusesObject (name : List ℕ) : FaultLine → Type 0 where
+    no_file : {f : FaultLine} → IsNoFile kind.Object name f → RefusesObject name f
+    no_object : {bytes : List ℕ} {at : ℕ} → IsFile name bytes → IsNoObject bytes at → RefusesObject name (fault.BadObject name at)
+    other_version : {bytes : List ℕ} {v : ℕ} → IsFile name bytes → IsOfVersion bytes v → RefusesObject name (fault.ObjectVersion name v)
 
   -- ---- tick texts
 

@@ -8,6 +8,7 @@ ghost use Rattle.rt_top.specs.Top.{asked_go, Headline};
 
 use crate::reporting::tell;
 use crate::running::run;
+use crate::showing::show;
 use rt_commands::{CommandWords, TimedWords, lend_words};
 use rt_first_go::{GoWords, go};
 use rt_outside::{Sink, Source, Store};
@@ -26,6 +27,8 @@ const WORDS_FAULT: &[u8] = b"FAULT 10\n";
 ///   the run. It answers 0 where all tasks ended without error, 1 where they ended and one with an error, 2 at the limit, 3 where
 ///   the run is stalled, 4 where an instruction faults, 13 and 15 where a file is refused, 20 and 21 where a count of faults says
 ///   why, and 30 for want of memory.
+/// - `show OBJECT` puts the listing of an object. It answers 0 then, 12 and 20 where the file is refused, whose fault line is put,
+///   21 where the output can't be written, and 30 for want of memory.
 ///
 /// For all other words the fault line is put, and the answer is 10.
 pub fn top<S: Store, I: Source, O: Sink>(
@@ -49,6 +52,7 @@ pub fn top<S: Store, I: Source, O: Sink>(
     match lent {
         CommandWords::Go(timed) => go(alloc, &go_words(timed), store, output),
         CommandWords::Run(timed) => run(alloc, &timed, store, input, output),
+        CommandWords::Show(object) => show(alloc, object, store, output),
         _ => tell(output, WORDS_FAULT, WRONG_WORDS),
     }
 }

@@ -2,9 +2,10 @@
 
 ghost use Rattle.std.specs.Prelude.{◌≡◌, ◌≤◌, ℕ, List, IfOk, IfErr};
 ghost use Rattle.rt_report.specs.declared.fault.FaultLine.TheVariants as fault;
-ghost use Rattle.rt_top.specs.Reading.{IsFile, IsNoFile, HasImage, RefusesImage, HasTicks, RefusesTicks, IsUnaccepted, IsRefusedBy, IsUnread};
+ghost use Rattle.rt_top.specs.Reading.{IsFile, IsNoFile, HasImage, RefusesImage, HasObject, RefusesObject, HasTicks, RefusesTicks, IsUnaccepted, IsRefusedBy, IsUnread};
 
 use rt_image::{Image, ImageFault, read_image};
+use rt_object::{Object, ObjectFault, read_object};
 use rt_outside::{Store, StoreError};
 use rt_report::{FaultLine, FileKind};
 use rt_system::{LineFault, Ticks, read_ticks};
@@ -96,6 +97,49 @@ pub fn accept_image<S: Store>(alloc: Global, store: &mut S, name: &str) -> Resul
             Ok(image) => Ok(image),
             Err(ImageFault::BadImage { at }) => Err(bad_image(alloc, name, at)),
             Err(ImageFault::Memory) => Err(Unaccepted::Memory),
+        },
+        Err(why) => Err(why),
+    }
+}
+
+fn bad_object(alloc: Global, name: &str, at: usize) -> Unaccepted
+    ensures { IsRefusedBy (fault.BadObject name.now at) result }
+{
+    match name_of(alloc, name) {
+        Ok(file) => Unaccepted::Refused(FaultLine::BadObject {
+            file,
+            at: at as u64,
+        }),
+        Err(_) => Unaccepted::Memory,
+    }
+}
+
+fn other_version(alloc: Global, name: &str, found: u8) -> Unaccepted
+    ensures { IsRefusedBy (fault.ObjectVersion name.now found) result }
+{
+    match name_of(alloc, name) {
+        Ok(file) => Unaccepted::Refused(FaultLine::ObjectVersion { file, found }),
+        Err(_) => Unaccepted::Memory,
+    }
+}
+
+/// Reads the object of a file.
+pub fn accept_object<S: Store>(
+    alloc: Global,
+    store: &mut S,
+    name: &str,
+) -> Result<Object, Unaccepted>
+    ensures ok { IfOk result (λ o. HasObject (S.files store.old) name.now o) }
+    ensures err { IfErr result (IsUnaccepted (RefusesObject (S.files store.old) name.now) name.now (S.read_faults store.old) (S.read_faults store.new)) }
+    ensures unchanged { S.files store.new ≡ S.files store.old }
+    ensures writes_later { (other : List ℕ) → S.write_faults store.old other ≤ S.write_faults store.new other }
+{
+    match read_file(alloc, store, name, FileKind::Object) {
+        Ok(bytes) => match read_object(alloc, &bytes) {
+            Ok(object) => Ok(object),
+            Err(ObjectFault::BadObject { at }) => Err(bad_object(alloc, name, at)),
+            Err(ObjectFault::Version { found }) => Err(other_version(alloc, name, found)),
+            Err(ObjectFault::Memory) => Err(Unaccepted::Memory),
         },
         Err(why) => Err(why),
     }

@@ -1,7 +1,7 @@
 use Rattle.std.proofs.Common.{map, string_bytes, refl}
 use Rattle.rt_first_go.specs.GoWords.{go_of}
 use Rattle.rt_top.specs.Running.{asked}
-use Rattle.rt_top.proofs.Clauses.{went, ran, told, lent_go, lent_run, lent_other, no_command}
+use Rattle.rt_top.proofs.Clauses.{went, ran, showed, told, lent_go, lent_run, lent_show, lent_other, no_command}
 use Rattle.rt_top.proofs.command.top.Goals as goal
 
 pub returns-in_default : goal.returns-in_default
@@ -20,5 +20,10 @@ returns-in-Run g c =
 
 pub returns-in_default-lent : goal.returns-in_default-lent
 returns-in_default-lent g c =
-    told (map string_bytes c.args.words.now) _ c.tell-in_default-lent.result (lent_other (map string_bytes c.args.words.now) c.in-Some.lent c.in_default-lent.not-Go c.in_default-lent.not-Run c.in-Some.ensures.command)
+    told (map string_bytes c.args.words.now) _ c.tell-in_default-lent.result (lent_other (map string_bytes c.args.words.now) c.in-Some.lent c.in_default-lent.not-Go c.in_default-lent.not-Run c.in_default-lent.not-Show c.in-Some.ensures.command)
     (record { tells = c.tell-in_default-lent.ensures (g.S.Store.files c.args.store.now) (g.S.Store.write_faults c.args.store.now); input = record { left = refl; faults = refl } })
+
+pub returns-in-Show : goal.returns-in-Show
+returns-in-Show g c =
+    showed (map string_bytes c.args.words.now) _ c.show.result c.in-Show.object.now (lent_show (map string_bytes c.args.words.now) c.in-Some.lent c.in-Show.object c.in-Show.is c.in-Some.ensures.command)
+    (c.show.ensures _ _)
