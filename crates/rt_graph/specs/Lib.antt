@@ -1,0 +1,11 @@
+pub mod Calls
+pub mod Reach
+pub mod Needs
+pub mod Tasks
+pub mod Candidates
+pub mod Numbers
+pub mod Rows
+pub mod Classes
+pub mod Nodes
+pub mod Sums
+pub mod Scans
