@@ -26,7 +26,7 @@ module _ {A : Type 0} where
     leads_first x y xs l = l 0 x y refl refl
 
     leads_tail : (x : A) (xs : List A) → EachLeads Leads (x ∷ xs) → EachLeads Leads xs
-    leads_tail x xs l i a b e f = l (suc i) a b e f
+    leads_tail x xs l i a b e f = l (suc i) a b e (subst (λ (k : ℕ). slice_get (x ∷ xs) k ≡ Some b) (let g : suc (i + 1) ≡ suc i + 1 = omega arith in g) f)
 
     leads_one : (x : A) → EachLeads Leads (x ∷ [])
     leads_one x zero a b e f = absurd cc
@@ -34,7 +34,7 @@ module _ {A : Type 0} where
 
     leads_cons : (x y : A) (xs : List A) → Leads x y → EachLeads Leads (y ∷ xs) → EachLeads Leads (x ∷ y ∷ xs)
     leads_cons x y xs h l zero a b e f = subst (λ (z : A). Leads z b) (some_is x a e) (subst (λ (z : A). Leads x z) (some_is y b f) h)
-    leads_cons x y xs h l (suc i) a b e f = l i a b e f
+    leads_cons x y xs h l (suc i) a b e f = l i a b e (subst (λ (k : ℕ). slice_get (x ∷ y ∷ xs) k ≡ Some b) (let g : suc i + 1 ≡ suc (i + 1) = omega arith in g) f)
 
     -- the first edge of a walk
     walk_first : (x z : A) → Walk Leads x z → (y : A) × Leads x y × ((y ≡ z) ⊎ Walk Leads y z)
@@ -42,6 +42,12 @@ module _ {A : Type 0} where
     walk_first x z (more {b = m} w e) =
         let f = walk_first x m w in
         (f.0, f.1, elim f.2 [ inl same ↦ inr (one (subst (λ (k : A). Leads k z) (sym same) e)) | inr far ↦ inr (more far e) ])
+
+le_or : (y x : ℕ) → (y < x) ⊎ (x ≤ y)
+le_or y x = grind arith
+
+behind : {A : Type 0} (row : List A) (y x : ℕ) → y < length row → slice_get row x ≡ None → y < x
+behind row y x l none = elim (le_or y x) [ inl h ↦ h | inr h ↦ absurd (not_there row x none (omega arith)) ]
 
 -- ---- the elements of a row among nodes
 
@@ -60,6 +66,21 @@ module _ {A : Type 0} (row : List A) where
     is : slice_get row node ≡ Some a
     front : (j y : ℕ) (b : A) → j < place → slice_get xs j ≡ Some y → slice_get row y ≡ Some b → (k : ℕ) × (k < i) × (slice_get (bricks_at row xs) k ≡ Some b)
 
+  abbrev Front : List ℕ → List ℕ → ℕ → ℕ → Type 0
+  Front xs whole i place = (j y : ℕ) (b : A) → j < place → slice_get xs j ≡ Some y → slice_get row y ≡ Some b → (k : ℕ) × (k < i) × (slice_get (bricks_at row whole) k ≡ Some b)
+
+  none_front : (x : ℕ) (xs : List ℕ) → slice_get row x ≡ None → (i place : ℕ) → Front xs xs i place → Front (x ∷ xs) (x ∷ xs) i (suc place)
+  none_front x xs q i place front zero y b less e g = absurd (let same : x ≡ y = some_is x y e in let h : slice_get row y ≡ None = subst (λ (z : ℕ). slice_get row z ≡ None) same q in cc)
+  none_front x xs q i place front (suc j) y b less e g = let h = front j y b (omega arith) e g in (h.0, h.1, subst (λ (l : List A). slice_get l h.0 ≡ Some b) (sym (at_none x xs q)) h.2)
+
+  some_front : (x : ℕ) (xs : List ℕ) (c : A) → slice_get row x ≡ Some c → (i place : ℕ) → Front xs xs i place → Front (x ∷ xs) (x ∷ xs) (suc i) (suc place)
+  some_front x xs c q i place front zero y b less e g =
+      let same : x ≡ y = some_is x y e in
+      (0, omega arith, subst (λ (l : List A). slice_get l 0 ≡ Some b) (sym (at_some x xs c q)) (sym q ∙ subst (λ (z : ℕ). slice_get row z ≡ Some b) (sym same) g))
+  some_front x xs c q i place front (suc j) y b less e g =
+      let h = front j y b (omega arith) e g in
+      (suc h.0, (let l = h.1 in omega arith), subst (λ (l : List A). slice_get l (suc h.0) ≡ Some b) (sym (at_some x xs c q)) h.2)
+
   picked : (xs : List ℕ) (i : ℕ) (a : A) → slice_get (bricks_at row xs) i ≡ Some a → IsPicked xs i a
   picked [] i a e = absurd (no_element i a e)
   picked (x ∷ xs) i a e = by (slice_get row x) refl i e (picked xs)
@@ -71,7 +92,7 @@ module _ {A : Type 0} (row : List A) where
             node = h.node;
             there = h.there;
             is = h.is;
-            front = none_front q i h.place h.front;
+            front = none_front x xs q i h.place h.front;
           }
       by (Some c) q zero f rest = record {
         place = 0;
@@ -86,22 +107,8 @@ module _ {A : Type 0} (row : List A) where
             node = h.node;
             there = h.there;
             is = h.is;
-            front = some_front c q i h.place h.front;
+            front = some_front x xs c q i h.place h.front;
           }
-        where
-      none_front : slice_get row x ≡ None → (i place : ℕ) → ((j y : ℕ) (b : A) → j < place → slice_get xs j ≡ Some y → slice_get row y ≡ Some b → (k : ℕ) × (k < i) × (slice_get (bricks_at row xs) k ≡ Some b))
-          → (j y : ℕ) (b : A) → j < suc place → slice_get (x ∷ xs) j ≡ Some y → slice_get row y ≡ Some b → (k : ℕ) × (k < i) × (slice_get (bricks_at row (x ∷ xs)) k ≡ Some b)
-      none_front q i place front zero y b less e g = absurd (let same : x ≡ y = some_is x y e in let h : slice_get row y ≡ None = subst (λ (z : ℕ). slice_get row z ≡ None) same q in cc)
-      none_front q i place front (suc j) y b less e g = let h = front j y b (omega arith) e g in (h.0, h.1, subst (λ (l : List A). slice_get l h.0 ≡ Some b) (sym (at_none x xs q)) h.2)
-
-      some_front : (c : A) → slice_get row x ≡ Some c → (i place : ℕ) → ((j y : ℕ) (b : A) → j < place → slice_get xs j ≡ Some y → slice_get row y ≡ Some b → (k : ℕ) × (k < i) × (slice_get (bricks_at row xs) k ≡ Some b))
-          → (j y : ℕ) (b : A) → j < suc place → slice_get (x ∷ xs) j ≡ Some y → slice_get row y ≡ Some b → (k : ℕ) × (k < suc i) × (slice_get (bricks_at row (x ∷ xs)) k ≡ Some b)
-      some_front c q i place front zero y b less e g =
-          let same : x ≡ y = some_is x y e in
-          (0, omega arith, subst (λ (l : List A). slice_get l 0 ≡ Some b) (sym (at_some x xs c q)) (sym q ∙ subst (λ (z : ℕ). slice_get row z ≡ Some b) (sym same) g))
-      some_front c q i place front (suc j) y b less e g =
-          let h = front j y b (omega arith) e g in
-          (suc h.0, (let l = h.1 in omega arith), subst (λ (l : List A). slice_get l (suc h.0) ≡ Some b) (sym (at_some x xs c q)) h.2)
 
   pub has_picked : (xs : List ℕ) (k x : ℕ) (a : A) → slice_get xs k ≡ Some x → slice_get row x ≡ Some a → Has (bricks_at row xs) a
   has_picked [] k x a e q = absurd (no_element k x e)
@@ -116,7 +123,7 @@ module _ {A : Type 0} (row : List A) where
       by (Some c) g h = subst (λ (l : List A). Has l a) (sym (at_some y xs c g)) (suc h.0, h.1)
 
   different_picked : ((x y : ℕ) (a : A) → slice_get row x ≡ Some a → slice_get row y ≡ Some a → x ≡ y) → (xs : List ℕ) → AreDifferent xs → AreDifferent (bricks_at row xs)
-  different_picked single [] d i j a e f = absurd (no_element i a e)
+  different_picked single [] d = λ i j a e f. absurd (no_element i a e)
   different_picked single (x ∷ xs) d = by (slice_get row x) refl (different_picked single xs (different_tail x xs d))
     where
       by : (o : Option A) → slice_get row x ≡ o → AreDifferent (bricks_at row xs) → AreDifferent (bricks_at row (x ∷ xs))
@@ -281,16 +288,10 @@ module _ {A : Type 0} (row : List A) (E : ℕ → ℕ → Type 0) (R : A → A �
             let f = walk_first E x x c in
             let z = view.far b.0 x f.0 b.1 b.2 b.4 g f.1 in
             let below = slice_get_within row f.0 z.0 z.1 in
-            absurd (least f.0 (behind f.0 x below g) (next r f.1) (elim f.2 [
+            absurd (least f.0 (behind row f.0 x below g) (next r f.1) (elim f.2 [
               | inl same ↦ absurd (let p : slice_get row f.0 ≡ Some z.0 = z.1 in let n : slice_get row f.0 ≡ None = subst (λ (k : ℕ). slice_get row k ≡ None) (sym same) g in cc)
               | inr w ↦ more w f.1
             ]))
-
-        behind : (y x : ℕ) → y < length row → slice_get row x ≡ None → y < x
-        behind y x l none = elim (le_or y x) [ inl h ↦ h | inr h ↦ absurd (not_there row x none (omega arith)) ]
-
-        le_or : (y x : ℕ) → (y < x) ⊎ (x ≤ y)
-        le_or y x = grind arith
 
     pub reached_seen : (x : ℕ) (a : A) → slice_get row x ≡ Some a → Reached E RootE x → Reached R RootA a
     reached_seen x a q r = (reached_from x r).seen a q

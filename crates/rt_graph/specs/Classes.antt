@@ -1,5 +1,5 @@
 -- The procedures that may be values, by their full modes.
-use Rattle.std.specs.Prelude.{◌≡◌, ℕ, zero, suc, ◌+◌, ◌<◌, nat_lt, Bool, true, false, if◌then◌else◌, List, [], ◌∷◌, ◌++◌, length, replicate, Option, Some, None, option_map, slice_get, slice_set}
+use Rattle.std.specs.Prelude.{◌≡◌, ℕ, zero, suc, ◌+◌, ◌<◌, ◌≤◌, nat_lt, Bool, true, false, if◌then◌else◌, List, [], ◌∷◌, ◌++◌, length, replicate, Option, Some, None, option_map, slice_get, slice_set}
 use Rattle.std.specs.BTreeMap.{BTreeMap, get_by}
 use Rattle.std.specs.Cmp.Lexicographic.{slice_cmp}
 use Rattle.std.specs.Ordering.{nat_cmp}
@@ -64,17 +64,21 @@ pub record AreApart (map : ClassMap) (count : ℕ) : Type 0 where
   pub one : (t u : List ℕ) (c : ℕ) → class_in map t ≡ Some c → class_in map u ≡ Some c → t ≡ u
   pub below : (t : List ℕ) (c : ℕ) → class_in map t ≡ Some c → c < count
 
--- the text has this class, and the others have what they had
-pub record IsNoted (old new : ClassMap) (text : List ℕ) (class : ℕ) : Type 0 where
-  pub here : class_in new text ≡ Some class
-  pub kept : (t : List ℕ) (c : ℕ) → class_in old t ≡ Some c → class_in new t ≡ Some c
+-- each text has the class that it had
+abbrev pub Keeps : ClassMap → ClassMap → Type 0
+Keeps old new = (t : List ℕ) (c : ℕ) → class_in old t ≡ Some c → class_in new t ≡ Some c
+
+-- the class of a text, where there is one
+abbrev pub IsToldOf : ClassMap → Option (List ℕ) → Option ℕ → Type 0
+IsToldOf map None class = class ≡ None
+IsToldOf map (Some t) class = (c : ℕ) × (class_in map t ≡ Some c) × (class ≡ Some c)
 
 -- the classes of texts
 pub record AreClasses (texts : List (Option (List ℕ))) (map : ClassMap) (of : List (Option ℕ)) (count : ℕ) : Type 0 where
   pub apart : AreApart map count
   pub size : length of ≡ length texts
-  pub none : (n : ℕ) → slice_get texts n ≡ Some None → slice_get of n ≡ Some None
-  pub some : (n : ℕ) (t : List ℕ) → slice_get texts n ≡ Some (Some t) → (c : ℕ) × (class_in map t ≡ Some c) × (slice_get of n ≡ Some (Some c))
+  pub few : count ≤ length texts
+  pub each : (n : ℕ) (t : Option (List ℕ)) → slice_get texts n ≡ Some t → (c : Option ℕ) × (slice_get of n ≡ Some c) × IsToldOf map t c
 
 -- ---- the nodes of classes
 

@@ -1,5 +1,5 @@
 -- Needs as they are added up: of bricks by their numbers, and the greatest of each class.
-use Rattle.std.specs.Prelude.{ℕ, zero, suc, ◌+◌, ◌-◌, nat_lt, if◌then◌else◌, List, [], ◌∷◌, length, Option, Some, None, slice_get, slice_set, slice_index}
+use Rattle.std.specs.Prelude.{ℕ, zero, suc, ◌+◌, ◌-◌, nat_lt, if◌then◌else◌, List, [], ◌∷◌, length, Option, Some, None, slice_get, slice_set}
 use Rattle.rt_tree_nodes.specs.declared.store.Proc.{Proc}
 use Rattle.rt_object.specs.declared.object.Call.{Call}
 use Rattle.rt_object.specs.declared.object.ObjectParts.{ObjectParts}
@@ -18,10 +18,17 @@ plus a b = counted (a + b)
 abbrev pub greater : ℕ → ℕ → ℕ
 greater a b = if nat_lt a b then b else a
 
+abbrev pub number_or_zero : Option ℕ → ℕ
+number_or_zero None = 0
+number_or_zero (Some n) = n
+
+abbrev pub need_at : List ℕ → ℕ → ℕ
+need_at needs n = number_or_zero (slice_get needs n)
+
 -- what a node needs, where one is called
 abbrev pub node_need : Table → Found → Option ℕ → ℕ
 node_need t found None = 0
-node_need t found (Some n) = if nat_lt n (total t) then slice_index found.of n else slice_index found.greatest (n - total t)
+node_need t found (Some n) = if nat_lt n (total t) then need_at found.of n else need_at found.greatest (n - total t)
 
 module _ (objects : List ObjectParts) (of : List (List Bound)) (t : Table) (found : Found) where
   abbrev pub point_need : ℕ → ObjectParts → Call → ℕ
@@ -49,7 +56,7 @@ flat (Some a) = a
 
 abbrev pub raise : Option ℕ → ℕ → List ℕ → List ℕ
 raise None n greatest = greatest
-raise (Some c) n greatest = slice_set greatest c (greater (slice_index greatest c) n)
+raise (Some c) n greatest = slice_set greatest c (greater (need_at greatest c) n)
 
 -- the need of the procedure that has a number is noted
 abbrev pub note : Table → Option ℕ → ℕ → Found → Found

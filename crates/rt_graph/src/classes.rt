@@ -2,7 +2,7 @@
 
 ghost use Rattle.std.specs.Prelude.{◌≡◌, ℕ, List, ◌+◌, ◌<◌, ◌≤◌, ◌^◌, Some, if◌then◌else◌, IfOk, OnOk};
 ghost use Rattle.std.specs.Str.{bytes_eq};
-ghost use Rattle.rt_graph.specs.Classes.{AreApart, AreClasses, IsNoted, class_in};
+ghost use Rattle.rt_graph.specs.Classes.{AreApart, AreClasses, IsToldOf, Keeps, class_in};
 
 use rt_words::{Bytes, List, Memory};
 use std::alloc::Global;
@@ -28,10 +28,8 @@ impl<'t> Classes<'t> {
         let mut of = List::new(alloc, texts.len())?;
         let mut count = 0;
         for text in texts {
-            match text {
-                Some(text) => of.push(Some(class_for(&mut map, &mut count, text.as_slice())?))?,
-                None => of.push(None)?,
-            }
+            let class = class_told(&mut map, &mut count, text)?;
+            of.push(class)?;
         }
         Ok(Classes { map, of, count })
     }
@@ -44,12 +42,32 @@ pub fn class_of(map: &ClassMap<'_>, text: &[u8]) -> Option<usize>
     map.get(text).copied()
 }
 
+/// The class of a text, where there is one.
+fn class_told<'t>(
+    map: &mut ClassMap<'t>,
+    count: &mut usize,
+    text: &'t Option<Bytes>,
+) -> Result<Option<usize>, Memory>
+    requires apart { AreApart map.old count.old }
+    requires small { count.old + 1 < 2 ^ 64 }
+    ensures apart { OnOk result (AreApart map.new count.new) }
+    ensures kept { OnOk result (Keeps map.old map.new) }
+    ensures told { IfOk result (IsToldOf map.new text.now) }
+    ensures count { OnOk result (count.new ≤ count.old + 1) }
+{
+    match text {
+        Some(text) => Ok(Some(class_for(map, count, text.as_slice())?)),
+        None => Ok(None),
+    }
+}
+
 /// The class of a text, which is a new one where it has none.
 fn class_for<'t>(map: &mut ClassMap<'t>, count: &mut usize, text: &'t [u8]) -> Result<usize, Memory>
     requires apart { AreApart map.old count.old }
     requires small { count.old + 1 < 2 ^ 64 }
     ensures apart { OnOk result (AreApart map.new count.new) }
-    ensures noted { IfOk result (IsNoted map.old map.new text.now) }
+    ensures kept { OnOk result (Keeps map.old map.new) }
+    ensures here { IfOk result (λ class. class_in map.new text.now ≡ Some class) }
     ensures count { OnOk result (count.new ≤ count.old + 1) }
 {
     match class_of(map, text) {

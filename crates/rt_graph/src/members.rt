@@ -10,7 +10,7 @@ ghost use Rattle.rt_graph.specs.Nodes.{IsTable};
 ghost use Rattle.rt_graph.specs.Nodes as nodes;
 ghost use Rattle.rt_graph.specs.Rows.{IsRow};
 
-use crate::nodes::mode_node;
+use crate::nodes::{mode_node, push_some};
 use crate::places::object_at;
 use crate::row::Row;
 use crate::table::Table;
@@ -79,11 +79,20 @@ fn members(alloc: Global, table: &Table<'_>, node: usize) -> Result<List<Proc>, 
     let row = table.row.bricks.as_slice();
     let mut members = List::new(alloc, 0)?;
     for number in 0..row.len() {
-        if is_member(table, node, number) {
-            members.push(row[number])?;
-        }
+        push_some(&mut members, member(table, node, number, row[number]))?;
     }
     Ok(members)
+}
+
+/// A brick of the row, if it is of the class that has a node.
+fn member(table: &Table<'_>, node: usize, number: usize, of: Proc) -> Option<Proc>
+    ensures { result ≡ spec.only_if (spec.is_member (nodes.total table.now) node (slice_get table.now.classes.of number)) of }
+{
+    if is_member(table, node, number) {
+        Some(of)
+    } else {
+        None
+    }
 }
 
 fn is_member(table: &Table<'_>, node: usize, number: usize) -> bool

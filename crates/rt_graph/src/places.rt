@@ -1,6 +1,7 @@
 //! What a system has at the places that its procedures name.
 
-ghost use Rattle.std.specs.Prelude.{◌≡◌, [], IfOk};
+ghost use Rattle.std.specs.Prelude.{◌≡◌, ◌≤◌, ◌-◌, [], slice_get, IfOk};
+ghost use Rattle.rt_supplied.specs.declared.supplied.TheConstants.{SUPPLIED};
 ghost use Rattle.std.specs.Option.{option_copied};
 ghost use Rattle.rt_modes.specs.FullMode.{FullMode};
 ghost use Rattle.rt_graph.specs.Calls as calls;
@@ -9,7 +10,7 @@ ghost use Rattle.rt_graph.specs.Numbers as numbers;
 use rt_match::{Bindings, Bound};
 use rt_modes::write_mode;
 use rt_object::{Brick, BrickKind, Content, Object, ObjectParts, ProcContent};
-use rt_supplied::SUPPLIED;
+use rt_supplied::{SUPPLIED, Supplied};
 use rt_tree_nodes::Proc;
 use rt_words::{Bytes, Memory, Text};
 use std::alloc::Global;
@@ -138,6 +139,22 @@ fn supplied_mode(alloc: Global, number: u16) -> Result<Option<Bytes>, Memory>
     if !is_supplied(number) {
         return Ok(None);
     }
-    let text = SUPPLIED[usize::from(number) - 1].text();
-    Ok(Some(Bytes::from_slice(alloc, text.as_bytes())?))
+    match supplied(usize::from(number)) {
+        Some(supplied) => {
+            let text = Bytes::from_slice(alloc, supplied.text().as_bytes())?;
+            Ok(Some(text))
+        }
+        None => Ok(None),
+    }
+}
+
+/// A supplied brick, by its number from 1.
+fn supplied(number: usize) -> Option<Supplied>
+    requires { 1 ≤ number }
+    ensures { result ≡ slice_get SUPPLIED (number - 1) }
+{
+    match SUPPLIED.as_slice().get(number - 1) {
+        Some(supplied) => Some(*supplied),
+        None => None,
+    }
 }

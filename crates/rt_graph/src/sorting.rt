@@ -1,6 +1,6 @@
 //! The reached procedures in an order in which each stands behind those that it calls.
 
-ghost use Rattle.std.specs.Prelude.{◌≡◌, ◌≤◌, length, IfOk, IfErr};
+ghost use Rattle.std.specs.Prelude.{◌≡◌, ◌≤◌, length, slice_get, IfOk, IfErr};
 ghost use Rattle.rt_digraph.specs.Digraph.{IsSorted};
 ghost use Rattle.rt_graph.specs.Classes as classes;
 ghost use Rattle.rt_graph.specs.Nodes as spec;
@@ -112,7 +112,16 @@ fn bricks_at(alloc: Global, row: &[Proc], nodes: &[usize]) -> Result<List<Proc>,
 {
     let mut bricks = List::new(alloc, 0)?;
     for node in nodes {
-        push_some(&mut bricks, row.get(*node).copied())?;
+        push_some(&mut bricks, brick_at(row, *node))?;
     }
     Ok(bricks)
+}
+
+fn brick_at(row: &[Proc], node: usize) -> Option<Proc>
+    ensures { result ≡ slice_get row.now node }
+{
+    match row.get(node) {
+        Some(brick) => Some(*brick),
+        None => None,
+    }
 }

@@ -58,9 +58,15 @@ fn told_need(procs: &[Proc], needs: &[u32], of: Proc) -> Option<u32>
     ensures { result ≡ spec.told_need procs.now needs.now of }
 {
     for number in 0..procs.len() {
-        if procs[number] == of {
+        if is_same(procs[number], of) {
             return needs.get(number).copied();
         }
     }
     None
+}
+
+fn is_same(one: Proc, other: Proc) -> bool
+    ensures { result ≡ spec.is_same one other }
+{
+    one.module == other.module && one.brick == other.brick
 }

@@ -1,6 +1,6 @@
 //! The needs of procedures.
 
-ghost use Rattle.std.specs.Prelude.{◌≡◌, ◌≤◌, ◌+◌, List, length, replicate, slice_get, slice_index, slice_set, if◌then◌else◌, IfOk};
+ghost use Rattle.std.specs.Prelude.{◌≡◌, ◌≤◌, ◌+◌, List, length, replicate, slice_get, slice_set, if◌then◌else◌, IfOk};
 ghost use Rattle.rt_graph.specs.Calls as calls;
 ghost use Rattle.rt_graph.specs.Classes as classes;
 ghost use Rattle.rt_graph.specs.Needs.{AreNeeds, kept};
@@ -176,7 +176,14 @@ fn greater(a: u32, b: u32) -> u32
 fn point_need(call: &Call, callee: u32) -> u32
     ensures { result ≡ spec.plus (call.now.depth + kept call.now.target + call.now.args) callee }
 {
-    (u32::from(call.depth) + kept(&call.target) + u32::from(call.args)).saturating_add(callee)
+    words(call.depth, kept(&call.target), call.args, callee)
+}
+
+fn words(depth: u16, kept: u32, args: u16, callee: u32) -> u32
+    requires { kept ≤ 1 }
+    ensures { result ≡ spec.plus (depth + kept + args) callee }
+{
+    (u32::from(depth) + kept + u32::from(args)).saturating_add(callee)
 }
 
 /// A call through a mode keeps the procedure below its arguments.
@@ -230,7 +237,7 @@ fn class_at(table: &Table<'_>, number: usize) -> Option<usize>
 }
 
 fn need_at(needs: &List<u32>, at: usize) -> u32
-    ensures { result ≡ slice_index needs.now at }
+    ensures { result ≡ spec.need_at needs.now at }
 {
     match needs.get(at) {
         Some(need) => *need,

@@ -1,0 +1,6 @@
+use Rattle.std.proofs.Common.{◌≡◌, drop}
+use Rattle.rt_graph.specs.Sums.{deepest}
+use Rattle.rt_graph.proofs.sums.body_need.Given as goal
+
+abbrev pub invariant-loop-call : goal.invariant-loop-call
+invariant-loop-call l = deepest l.objects l.bindings.of l.table l.found l.«module» l.object (drop l.call-index l.body.calls) l.deepest ≡ deepest l.objects l.bindings.of l.table l.found l.«module» l.object l.body.calls l.body.deep
