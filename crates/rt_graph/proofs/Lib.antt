@@ -4,3 +4,7 @@ pub mod Rows
 pub mod Told
 pub mod Procedures
 pub mod Marks
+pub mod Classed
+pub mod Noded
+pub mod Ordered
+pub mod Found

@@ -98,7 +98,7 @@ module _ (objects : List ObjectParts) (of : List (List Bound)) where
   abbrev row_long : ℕ
   row_long = length (all_bricks objects)
 
-  abbrev none : List Bool
+  abbrev pub none : List Bool
   none = replicate row_long false
 
   abbrev first_marks : List Bool

@@ -11,11 +11,11 @@ use Rattle.rt_graph.specs.Reach.{Earlier}
 -- ---- joined lists
 
 module _ {A : Type 0} where
-  get_behind : (xs ys : List A) (i : ℕ) → slice_get (xs ++ ys) (length xs + i) ≡ slice_get ys i
+  pub get_behind : (xs ys : List A) (i : ℕ) → slice_get (xs ++ ys) (length xs + i) ≡ slice_get ys i
   get_behind [] ys i = ap (slice_get ys) (let e : 0 + i ≡ i = omega arith in e)
   get_behind (x ∷ xs) ys i = ap (slice_get (x ∷ xs ++ ys)) (let e : suc (length xs) + i ≡ suc (length xs + i) = omega arith in e) ∙ get_behind xs ys i
 
-  get_joined : (xs ys : List A) (n : ℕ) (a : A) → slice_get (xs ++ ys) n ≡ Some a → ((n < length xs) × (slice_get xs n ≡ Some a)) ⊎ ((i : ℕ) × (n ≡ length xs + i) × (slice_get ys i ≡ Some a))
+  pub get_joined : (xs ys : List A) (n : ℕ) (a : A) → slice_get (xs ++ ys) n ≡ Some a → ((n < length xs) × (slice_get xs n ≡ Some a)) ⊎ ((i : ℕ) × (n ≡ length xs + i) × (slice_get ys i ≡ Some a))
   get_joined [] ys n a e = inr (n, omega arith, e)
   get_joined (x ∷ xs) ys zero a e = inl (omega arith, e)
   get_joined (x ∷ xs) ys (suc n) a e = elim (get_joined xs ys n a e) [

@@ -7,6 +7,7 @@ use Rattle.std.proofs.Common.{Bor}
 use Rattle.rt_tree_nodes.specs.declared.store.Proc.{Proc}
 use Rattle.rt_object.specs.declared.object.ObjectParts.{ObjectParts}
 use Rattle.rt_match.specs.declared.bindings.Bound.{Bound}
+use Rattle.rt_digraph.specs.Digraph.{listed}
 use Rattle.rt_graph.specs.Calls.{stands_for}
 use Rattle.rt_graph.specs.Numbers.{all_bricks, number_of, full_mode, and_then}
 
@@ -81,10 +82,6 @@ pub record AreClasses (texts : List (Option (List ℕ))) (map : ClassMap) (of : 
   pub each : (n : ℕ) (t : Option (List ℕ)) → slice_get texts n ≡ Some t → (c : Option ℕ) × (slice_get of n ≡ Some c) × IsToldOf map t c
 
 -- ---- the nodes of classes
-
-abbrev pub listed : Option (List ℕ) → List ℕ
-listed None = []
-listed (Some xs) = xs
 
 -- n is a successor of node i
 abbrev pub add : List (List ℕ) → ℕ → ℕ → List (List ℕ)
