@@ -8,3 +8,6 @@ pub mod Classed
 pub mod Noded
 pub mod Ordered
 pub mod Found
+pub mod Counted
+pub mod Needed
+pub mod Tasked

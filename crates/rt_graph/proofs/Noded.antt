@@ -169,7 +169,7 @@ module _ (objects : List ObjectParts) (of : List (List Bound)) (table : Table) (
   abbrev row : List Proc
   row = all_bricks objects
 
-  total_is : total table ≡ length row
+  pub total_is : total table ≡ length row
   total_is = ap length row_is
 
   -- ---- the node at a point
@@ -179,14 +179,14 @@ module _ (objects : List ObjectParts) (of : List (List Bound)) (table : Table) (
     to_brick : (f : Proc) → IsProcedure objects f → y ≡ place objects f → May f → ((g : Proc) → May g → f ≡ g) → Leads May y
     to_class : (t : List ℕ) (c : ℕ) → class_in table.classes.map t ≡ Some c → y ≡ total table + c → ((g : Proc) → IsCandidate objects of t g → May g) → ((g : Proc) → May g → IsCandidate objects of t g) → Leads May y
 
-  class_leads : (May : Proc → Type 0) (t : List ℕ) (y : ℕ) → class_node table t ≡ Some y → ((g : Proc) → IsCandidate objects of t g → May g) → ((g : Proc) → May g → IsCandidate objects of t g) → Leads May y
+  pub class_leads : (May : Proc → Type 0) (t : List ℕ) (y : ℕ) → class_node table t ≡ Some y → ((g : Proc) → IsCandidate objects of t g → May g) → ((g : Proc) → May g → IsCandidate objects of t g) → Leads May y
   class_leads May t y e to from = by (class_in table.classes.map t) refl e
     where
       by : (o : Option ℕ) → class_in table.classes.map t ≡ o → option_map (λ c. total table + c) o ≡ Some y → Leads May y
       by None q f = absurd cc
       by (Some c) q f = to_class t c q (sym (some_is (total table + c) y f)) to from
 
-  class_none : (t : List ℕ) (g : Proc) → class_node table t ≡ None → IsCandidate objects of t g → ⊥
+  pub class_none : (t : List ℕ) (g : Proc) → class_node table t ≡ None → IsCandidate objects of t g → ⊥
   class_none t g e h =
       let c = candidate_class objects of table.classes.map table.classes.of table.classes.count is.classes t g h in
       let f : class_node table t ≡ Some (total table + c.0) = ap (option_map (λ k. total table + k)) c.1 in cc
@@ -322,7 +322,7 @@ module _ (objects : List ObjectParts) (of : List (List Bound)) (table : Table) (
         | inr k ↦ (let none : ns ≡ [] = get_replicate table.classes.count k.0 [] ns k.2 in let bad : Has [] y = subst (λ (l : List ℕ). Has l y) none g in no_element bad.0 y bad.1)
       ]
 
-  row_below : (x : ℕ) (f : Proc) → slice_get row x ≡ Some f → x < total table
+  pub row_below : (x : ℕ) (f : Proc) → slice_get row x ≡ Some f → x < total table
   row_below x f e = let l = slice_get_within row x f e in let t = total_is in omega arith
 
   -- an edge from a brick leads to one of its nodes

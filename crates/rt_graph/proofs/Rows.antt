@@ -131,6 +131,18 @@ pub data IsAt (objects : List ObjectParts) (n : ℕ) (f : Proc) : Type 0 where
   supplied : f.«module» ≡ 0 → f.brick ≡ n → n < 11 → IsAt objects n f
   of_module : (m : ℕ) (o : ObjectParts) → slice_get objects m ≡ Some o → f.«module» ≡ suc m → f.brick < length o.bricks → n ≡ 11 + before objects m + f.brick → IsAt objects n f
 
+pub order_or : (m n : ℕ) → (m ≡ n) ⊎ ((m < n) ⊎ (n < m))
+order_or zero zero = inl refl
+order_or zero (suc n) = inr (inl (omega arith))
+order_or (suc m) zero = inr (inr (omega arith))
+order_or (suc m) (suc n) = elim (order_or m n) [ inl e ↦ inl (ap suc e) | inr h ↦ elim h [ inl l ↦ inr (inl (omega arith)) | inr l ↦ inr (inr (omega arith)) ] ]
+
+pub not_both : (f g : Proc) → Earlier f g → Earlier g f → ⊥
+not_both f g (inl a) (inl b) = omega arith
+not_both f g (inl a) (inr b) = let m = b.0 in omega arith
+not_both f g (inr a) (inl b) = let m = a.0 in omega arith
+not_both f g (inr a) (inr b) = let m = a.1 in let n = b.1 in omega arith
+
 module _ (objects : List ObjectParts) where
   pub at_row : (n : ℕ) (f : Proc) → slice_get (all_bricks objects) n ≡ Some f → IsAt objects n f
   at_row n f e = elim (get_joined (bricks_from 0 0 11) (modules_from 1 objects) n f e) [
@@ -159,12 +171,6 @@ module _ (objects : List ObjectParts) where
   pub single_at : (x y : ℕ) (f : Proc) → slice_get (all_bricks objects) x ≡ Some f → slice_get (all_bricks objects) y ≡ Some f → x ≡ y
   single_at x y f e g = sym (place_at x f (at_row x f e)) ∙ place_at y f (at_row y f g)
 
-  order_or : (m n : ℕ) → (m ≡ n) ⊎ ((m < n) ⊎ (n < m))
-  order_or zero zero = inl refl
-  order_or zero (suc n) = inr (inl (omega arith))
-  order_or (suc m) zero = inr (inr (omega arith))
-  order_or (suc m) (suc n) = elim (order_or m n) [ inl e ↦ inl (ap suc e) | inr h ↦ elim h [ inl l ↦ inr (inl (omega arith)) | inr l ↦ inr (inr (omega arith)) ] ]
-
   rises : (x y : ℕ) (f g : Proc) → IsAt objects x f → IsAt objects y g → x < y → Earlier f g
   rises x y f g (supplied m b l) (supplied n c k) h = inr (m ∙ sym n, omega arith)
   rises x y f g (supplied m b l) (of_module n p e of there stands) h = inl (omega arith)
@@ -179,12 +185,6 @@ module _ (objects : List ObjectParts) where
 
   pub row_rises : (x y : ℕ) (f g : Proc) → slice_get (all_bricks objects) x ≡ Some f → slice_get (all_bricks objects) y ≡ Some g → x < y → Earlier f g
   row_rises x y f g d e h = rises x y f g (at_row x f d) (at_row y g e) h
-
-  not_both : (f g : Proc) → Earlier f g → Earlier g f → ⊥
-  not_both f g (inl a) (inl b) = omega arith
-  not_both f g (inl a) (inr b) = let m = b.0 in omega arith
-  not_both f g (inr a) (inl b) = let m = a.0 in omega arith
-  not_both f g (inr a) (inr b) = let m = a.1 in let n = b.1 in omega arith
 
   pub earlier_below : (x y : ℕ) (f g : Proc) → slice_get (all_bricks objects) x ≡ Some f → slice_get (all_bricks objects) y ≡ Some g → Earlier f g → x < y
   earlier_below x y f g d e h = elim (order_or x y) [

@@ -34,7 +34,7 @@ module _ (objects : List ObjectParts) (of : List (List Bound)) where
   -- the greatest of a procedure's own depths and of what its points need
   pub record IsDeepest (need : Proc → ℕ) (m : ℕ) (o : ObjectParts) (p : ProcContent) (w : ℕ) : Type 0 where
     pub own : p.deep ≤ w
-    pub points : (c : Call) (v : ℕ) → Has p.calls c → AtPoint need m o c v → v ≤ w
+    pub points : (c : Call) → Has p.calls c → (v : ℕ) × AtPoint need m o c v × (v ≤ w)
     pub had : (w ≡ p.deep) ⊎ ((c : Call) × Has p.calls c × AtPoint need m o c w)
 
   -- What a procedure needs, where those that it calls need so much: the link and the return address, the locals, and what its
