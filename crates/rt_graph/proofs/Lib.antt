@@ -5,9 +5,12 @@ pub mod Told
 pub mod Procedures
 pub mod Marks
 pub mod Classed
+pub mod Classing
 pub mod Noded
 pub mod Ordered
 pub mod Found
 pub mod Counted
 pub mod Needed
 pub mod Tasked
+pub mod Unique
+pub mod Stacked

@@ -91,9 +91,13 @@ abbrev pub told_need : List Proc → List ℕ → Proc → Option ℕ
 told_need [] ns g = None
 told_need (f ∷ fs) ns g = if is_same f g then slice_get ns 0 else told_need fs (drop 1 ns) g
 
+abbrev pub less_by : Bool → ℕ → ℕ → Option (ℕ × ℕ)
+less_by true need has = Some (need, has)
+less_by false need has = None
+
 abbrev pub less : ℕ → ℕ → Option (ℕ × ℕ)
-less need has = if nat_lt has need then Some (need, has) else None
+less need has = less_by (nat_lt has need) need has
 
 -- the need of a task's root and the words of its stack, where these are fewer
 abbrev pub small : List ObjectParts → List Proc → List ℕ → Task → Option (ℕ × ℕ)
-small objects fs needs t = and_then (root_named objects t.root) (λ f. and_then (stack_named objects t.stack) (λ has. and_then (told_need fs needs f) (λ need. less need has)))
+small objects fs needs t = and_then (stack_named objects t.stack) (λ has. and_then (root_named objects t.root) (λ f. and_then (told_need fs needs f) (λ need. less need has)))

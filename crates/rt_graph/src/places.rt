@@ -1,6 +1,6 @@
 //! What a system has at the places that its procedures name.
 
-ghost use Rattle.std.specs.Prelude.{◌≡◌, ◌≤◌, ◌-◌, [], slice_get, IfOk};
+ghost use Rattle.std.specs.Prelude.{◌≡◌, ◌≤◌, ◌-◌, [], Some, slice_get, IfOk};
 ghost use Rattle.rt_supplied.specs.declared.supplied.TheConstants.{SUPPLIED};
 ghost use Rattle.std.specs.Option.{option_copied};
 ghost use Rattle.rt_modes.specs.FullMode.{FullMode};
@@ -139,22 +139,16 @@ fn supplied_mode(alloc: Global, number: u16) -> Result<Option<Bytes>, Memory>
     if !is_supplied(number) {
         return Ok(None);
     }
-    match supplied(usize::from(number)) {
-        Some(supplied) => {
-            let text = Bytes::from_slice(alloc, supplied.text().as_bytes())?;
-            Ok(Some(text))
-        }
-        None => Ok(None),
-    }
+    let brick = supplied(usize::from(number));
+    let text = Bytes::from_slice(alloc, brick.text().as_bytes())?;
+    Ok(Some(text))
 }
 
 /// A supplied brick, by its number from 1.
-fn supplied(number: usize) -> Option<Supplied>
-    requires { 1 ≤ number }
-    ensures { result ≡ slice_get SUPPLIED (number - 1) }
+fn supplied(number: usize) -> Supplied
+    requires least { 1 ≤ number }
+    requires most { number ≤ 12 }
+    ensures { slice_get SUPPLIED (number - 1) ≡ Some result }
 {
-    match SUPPLIED.as_slice().get(number - 1) {
-        Some(supplied) => Some(*supplied),
-        None => None,
-    }
+    SUPPLIED[number - 1]
 }

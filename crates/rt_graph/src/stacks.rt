@@ -1,6 +1,6 @@
 //! Whether the stacks of tasks are large enough.
 
-ghost use Rattle.std.specs.Prelude.{◌≡◌, ◌≤◌, ℕ, List, length, slice_get, Some, IfOk, IfErr, OnOk};
+ghost use Rattle.std.specs.Prelude.{◌≡◌, ◌≤◌, ◌<◌, ℕ, List, length, slice_get, Some, IfOk, IfErr, OnOk};
 ghost use Rattle.rt_graph.specs.Scans as spec;
 ghost use Rattle.rt_graph.specs.Tasks as tasks;
 ghost use Rattle.rt_match.specs.declared.bindings.Bound.{Bound};
@@ -41,10 +41,11 @@ pub fn check_stacks(
 /// The need of a task's root and the words of its stack, where these are fewer.
 fn small(objects: &[Object], procs: &[Proc], needs: &[u32], task: &Task) -> Option<(u32, u16)>
     requires { length objects.now ≤ 64 }
-    ensures { result ≡ spec.small objects.now procs.now needs.now task.now }
+    ensures value { result ≡ spec.small objects.now procs.now needs.now task.now }
+    ensures words { (n : ℕ) → spec.stack_named objects.now task.now.stack ≡ Some n → n < 65536 }
 {
-    let root = root_named(objects, task.root.as_slice())?;
     let has = stack_named(objects, task.stack.as_slice())?;
+    let root = root_named(objects, task.root.as_slice())?;
     let need = told_need(procs, needs, root)?;
     if u32::from(has) < need {
         Some((need, has))

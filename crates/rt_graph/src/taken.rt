@@ -25,9 +25,23 @@ pub fn taken_texts(
     requires few { length objects.now ≤ 64 }
     ensures { IfOk result (λ texts. texts ≡ spec.taken_texts objects.now bindings.now.of) }
 {
+    let marks = all_marks(alloc, objects, bindings, row)?;
+    texts_of(alloc, objects, marks.as_slice(), row.bricks.as_slice())
+}
+
+fn all_marks(
+    alloc: Global,
+    objects: &[Object],
+    bindings: &Bindings,
+    row: &Row,
+) -> Result<Vec<bool>, Memory>
+    requires row { IsRow objects.now row.now }
+    requires few { length objects.now ≤ 64 }
+    ensures { IfOk result (λ marks. marks.items ≡ spec.mark_all objects.now bindings.now.of (replicate (length row.now.bricks) false)) }
+{
     let mut marks = vec![in alloc; false; row.bricks.len()]?;
     mark_all(objects, bindings, row, marks.as_mut_slice());
-    texts_of(alloc, objects, marks.as_slice(), row.bricks.as_slice())
+    Ok(marks)
 }
 
 /// Marks all procedures that may be values.
