@@ -1,11 +1,11 @@
 -- The candidates of a full mode by classes.
-use Rattle.std.proofs.Common.{◌≡◌, ℕ, zero, suc, ◌+◌, ◌<◌, ◌≤◌, ◌⊎◌, inl, inr, if◌then◌else◌, Bool, true, false, List, [], ◌∷◌, length, Option, Some, None, slice_get, refl, sym, ap, ◌∙◌, subst, arith}
+use Rattle.std.proofs.Common.{◌≡◌, ℕ, zero, suc, ◌+◌, if◌then◌else◌, Bool, true, false, List, [], ◌∷◌, length, Option, Some, None, slice_get, refl, sym, ap, ◌∙◌, arith}
 use Rattle.std.proofs.lemmas.Option.{slice_get_within}
 use Rattle.rt_tree_nodes.specs.declared.store.Proc.{Proc}
 use Rattle.rt_object.specs.declared.object.ObjectParts.{ObjectParts}
 use Rattle.rt_match.specs.declared.bindings.Bound.{Bound}
 use Rattle.rt_digraph.proofs.Lists.{no_element, some_is, get_there}
-use Rattle.rt_graph.specs.Calls.{IsTaken, IsCandidate, HasFullMode, IsProcedure}
+use Rattle.rt_graph.specs.Calls.{IsCandidate, IsProcedure}
 use Rattle.rt_graph.specs.Numbers.{all_bricks, place, full_mode}
 use Rattle.rt_graph.specs.Classes.{mark_all, is_marked, text_of, texts_of, taken_texts, ClassMap, class_in, AreClasses, IsToldOf}
 use Rattle.rt_graph.proofs.Procedures.{full_to, full_from, procedure_row}

@@ -18,11 +18,11 @@ pub told_more : (texts : List (Option (List ℕ))) (old new : ClassMap) (of afte
     → length of ≡ i → slice_get texts i ≡ Some text → AreTold texts old of i → Keeps old new → IsToldOf new text class → after ≡ of ++ class ∷ [] → AreTold texts new after (i + 1)
 told_more texts old new of after i text class long at below keeps told e n t l there = elim (same_or_not n i) [
   | inl same ↦ (
-    let is : text ≡ t = some_is text t (sym at ∙ subst (λ (k : ℕ). slice_get texts k ≡ Some t) same there) in
-    (class, subst (λ (xs : List (Option ℕ)). slice_get xs n ≡ Some class) (sym e) (subst (λ (k : ℕ). slice_get (of ++ class ∷ []) k ≡ Some class) (long ∙ sym same) (get_end of class)), subst (λ (x : Option (List ℕ)). IsToldOf new x class) is told))
+      let is : text ≡ t = some_is text t (sym at ∙ subst (λ (k : ℕ). slice_get texts k ≡ Some t) same there) in
+      (class, subst (λ (xs : List (Option ℕ)). slice_get xs n ≡ Some class) (sym e) (subst (λ (k : ℕ). slice_get (of ++ class ∷ []) k ≡ Some class) (long ∙ sym same) (get_end of class)), subst (λ (x : Option (List ℕ)). IsToldOf new x class) is told))
   | inr other ↦ (
-    let h = below n t (less n i l other) there in
-    (h.0, subst (λ (xs : List (Option ℕ)). slice_get xs n ≡ Some h.0) (sym e) (get_left of (class ∷ []) n h.0 h.1), told_kept old new t h.0 keeps h.2))
+      let h = below n t (less n i l other) there in
+      (h.0, subst (λ (xs : List (Option ℕ)). slice_get xs n ≡ Some h.0) (sym e) (get_left of (class ∷ []) n h.0 h.1), told_kept old new t h.0 keeps h.2))
 ]
   where
     less : (n i : ℕ) → n < i + 1 → (n ≡ i → ⊥) → n < i

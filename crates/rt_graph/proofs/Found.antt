@@ -1,5 +1,5 @@
 -- The candidates of a mode, found by its class.
-use Rattle.std.proofs.Common.{◌≡◌, ℕ, zero, suc, ◌+◌, ◌-◌, ◌<◌, ◌≤◌, ◌⊎◌, inl, inr, leb, eqb, ◌&&◌, Bool, true, false, List, [], ◌∷◌, length, Option, Some, None, option_map, slice_get, refl, sym, ap, ◌∙◌, subst, arith}
+use Rattle.std.proofs.Common.{◌≡◌, ℕ, zero, suc, ◌+◌, ◌-◌, inl, inr, leb, eqb, ◌&&◌, Bool, true, false, List, [], ◌∷◌, Option, Some, None, option_map, slice_get, refl, sym, ap, ◌∙◌, subst, arith}
 use Rattle.std.proofs.lemmas.Bool.Decides.{nat_tests}
 use Rattle.rt_modes.specs.FullMode.{FullMode}
 use Rattle.rt_modes.specs.declared.mode.Mode.{Mode}
@@ -10,7 +10,6 @@ use Rattle.rt_object.specs.declared.object.ObjectParts.{ObjectParts}
 use Rattle.rt_match.specs.declared.bindings.Bound.{Bound}
 use Rattle.rt_digraph.specs.Walks.{Has}
 use Rattle.rt_digraph.proofs.Lists.{no_element, some_is}
-use Rattle.rt_graph.specs.Calls.{IsCandidateOf}
 use Rattle.rt_graph.specs.Candidates.{AreInOrder, AreCandidates, is_member, only_if, members}
 use Rattle.rt_graph.specs.Classes.{class_in}
 use Rattle.rt_graph.specs.Numbers.{all_bricks, place}
@@ -31,9 +30,9 @@ module _ (total node : ℕ) (of : List (Option ℕ)) where
   members_from k [] f h = absurd (no_element h.0 f h.1)
   members_from k (g ∷ fs) f h = elim (one_has (only_if (is_member total node (slice_get of k)) g) (members total node of (suc k) fs) f h) [
     | inl e ↦ (let o = only_is (is_member total node (slice_get of k)) g f e in
-      (0, ap (λ (x : Proc). Some x) o.1, subst (λ (j : ℕ). is_member total node (slice_get of j) ≡ true) (let z : k ≡ k + 0 = omega arith in z) o.0))
+        (0, ap (λ (x : Proc). Some x) o.1, subst (λ (j : ℕ). is_member total node (slice_get of j) ≡ true) (let z : k ≡ k + 0 = omega arith in z) o.0))
     | inr r ↦ (let i = members_from (suc k) fs f r in
-      (suc i.0, i.1, subst (λ (j : ℕ). is_member total node (slice_get of j) ≡ true) (let z : suc k + i.0 ≡ k + suc i.0 = omega arith in z) i.2))
+        (suc i.0, i.1, subst (λ (j : ℕ). is_member total node (slice_get of j) ≡ true) (let z : suc k + i.0 ≡ k + suc i.0 = omega arith in z) i.2))
   ]
 
   members_to : (k : ℕ) (fs : List Proc) (i : ℕ) (f : Proc) → slice_get fs i ≡ Some f → is_member total node (slice_get of (k + i)) ≡ true → Has (members total node of k fs) f
@@ -83,17 +82,17 @@ module _ (objects : List ObjectParts) (of : List (List Bound)) (table : Table) (
   by_class : (node c : ℕ) → is_proc m ≡ true → class_in table.classes.map (FullMode t m) ≡ Some c → node ≡ total table + c → AreCandidates objects of t m (members (total table) node table.classes.of 0 (all_bricks objects))
   by_class node c proc q e = record {
     all = λ f h. (
-      let k = candidate_class objects of table.classes.map table.classes.of table.classes.count is.classes (FullMode t m) f h.candidate in
-      let same : k.0 ≡ c = some_is k.0 c (sym k.1 ∙ q) in
-      members_to (total table) node table.classes.of 0 (all_bricks objects) (place objects f) f (procedure_row objects f (FullMode t m, h.candidate.mode))
-      (subst (λ (o : Option (Option ℕ)). is_member (total table) node o ≡ true) (sym (subst (λ (i : ℕ). slice_get table.classes.of i ≡ Some (Some c)) (let z : place objects f ≡ 0 + place objects f = omega arith in z) (k.2 ∙ ap (λ (x : ℕ). Some (Some x)) same)))
+        let k = candidate_class objects of table.classes.map table.classes.of table.classes.count is.classes (FullMode t m) f h.candidate in
+        let same : k.0 ≡ c = some_is k.0 c (sym k.1 ∙ q) in
+        members_to (total table) node table.classes.of 0 (all_bricks objects) (place objects f) f (procedure_row objects f (FullMode t m, h.candidate.mode))
+        (subst (λ (o : Option (Option ℕ)). is_member (total table) node o ≡ true) (sym (subst (λ (i : ℕ). slice_get table.classes.of i ≡ Some (Some c)) (let z : place objects f ≡ 0 + place objects f = omega arith in z) (k.2 ∙ ap (λ (x : ℕ). Some (Some x)) same)))
         (is_member_of (total table) node table.classes.of c e)));
     only = λ f h. (
-      let i = members_from (total table) node table.classes.of 0 (all_bricks objects) f h in
-      let class = member_is (total table) node table.classes.of (slice_get table.classes.of (0 + i.0)) c e i.2 in record {
-        proc = proc_is m proc;
-        candidate = class_candidate objects of table.classes.map table.classes.of table.classes.count is.classes i.0 (FullMode t m) f c i.1 (subst (λ (k : ℕ). slice_get table.classes.of k ≡ Some (Some c)) (let z : 0 + i.0 ≡ i.0 = omega arith in z) class) q;
-      });
+        let i = members_from (total table) node table.classes.of 0 (all_bricks objects) f h in
+        let class = member_is (total table) node table.classes.of (slice_get table.classes.of (0 + i.0)) c e i.2 in record {
+          proc = proc_is m proc;
+          candidate = class_candidate objects of table.classes.map table.classes.of table.classes.count is.classes i.0 (FullMode t m) f c i.1 (subst (λ (k : ℕ). slice_get table.classes.of k ≡ Some (Some c)) (let z : 0 + i.0 ≡ i.0 = omega arith in z) class) q;
+        });
     order = members_order (total table) node table.classes.of 0 (all_bricks objects) row_order;
   }
 
@@ -111,9 +110,9 @@ module _ (objects : List ObjectParts) (of : List (List Bound)) (table : Table) (
   pub candidates_none : mode_node table t m ≡ None → AreCandidates objects of t m []
   candidates_none e = record {
     all = λ f h. absurd (
-      let k = candidate_class objects of table.classes.map table.classes.of table.classes.count is.classes (FullMode t m) f h.candidate in
-      let a : mode_node table t m ≡ class_node table (FullMode t m) = ap (λ (b : Bool). mode_node_by b table (FullMode t m)) (proc_true m h.proc) in
-      let b : class_node table (FullMode t m) ≡ Some (total table + k.0) = ap (option_map (λ c. total table + c)) k.1 in cc);
+        let k = candidate_class objects of table.classes.map table.classes.of table.classes.count is.classes (FullMode t m) f h.candidate in
+        let a : mode_node table t m ≡ class_node table (FullMode t m) = ap (λ (b : Bool). mode_node_by b table (FullMode t m)) (proc_true m h.proc) in
+        let b : class_node table (FullMode t m) ≡ Some (total table + k.0) = ap (option_map (λ c. total table + c)) k.1 in cc);
     only = λ f h. absurd (no_element h.0 f h.1);
     order = λ i j a b h d e. absurd (no_element i a d);
   }

@@ -14,3 +14,4 @@ pub mod Needed
 pub mod Tasked
 pub mod Unique
 pub mod Stacked
+pub mod GraphLaws

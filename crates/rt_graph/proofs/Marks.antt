@@ -1,5 +1,5 @@
 -- Which procedures are marked as values.
-use Rattle.std.proofs.Common.{◌≡◌, ℕ, zero, suc, ◌+◌, ◌<◌, ◌≤◌, ◌⊎◌, inl, inr, if◌then◌else◌, Bool, true, false, List, [], ◌∷◌, length, replicate, Option, Some, None, slice_get, slice_set, refl, sym, ap, ◌∙◌, subst, arith}
+use Rattle.std.proofs.Common.{◌≡◌, ℕ, zero, suc, ◌+◌, ◌<◌, ◌⊎◌, inl, inr, Bool, true, false, List, [], ◌∷◌, length, replicate, Option, Some, None, slice_get, slice_set, refl, sym, ap, ◌∙◌, subst, arith}
 use Rattle.std.proofs.lemmas.Option.{slice_get_within}
 use Rattle.rt_tree_nodes.specs.declared.store.Proc.{Proc}
 use Rattle.rt_object.specs.declared.object.ObjectParts.{ObjectParts}
@@ -10,7 +10,7 @@ use Rattle.rt_digraph.proofs.Moves.{same_or_not}
 use Rattle.rt_graph.specs.Calls.{brick, numbered, stands_for, IsAlwaysTaken, IsTaken, named, always, IsProcedure}
 use Rattle.rt_graph.specs.Numbers.{all_bricks, place, number_of, and_then}
 use Rattle.rt_graph.specs.Classes.{mark, mark_taken, mark_modules, mark_all, true_or_not, is_marked}
-use Rattle.rt_graph.proofs.Rows.{at_row, row_at, place_at, IsAt, supplied}
+use Rattle.rt_graph.proofs.Rows.{row_at, supplied}
 use Rattle.rt_graph.proofs.Procedures.{number_to, number_from, procedure_row}
 
 marked_some : (o : Option Bool) → true_or_not o ≡ true → o ≡ Some true
@@ -124,9 +124,9 @@ module _ (objects : List ObjectParts) (of : List (List Bound)) where
   marked_taken n f at e = elim (modules_from 1 objects first_marks n e) [
     | inl g ↦ first n f at g
     | inr g ↦ (
-      let h = number_at_is (1 + g.0) g.2 n g.5 in
-      let same : h.0 ≡ f = some_is h.0 f (sym (procedure_row objects h.0 h.2) ∙ subst (λ (k : ℕ). slice_get (all_bricks objects) k ≡ Some f) h.3 at) in
-      subst (IsTaken objects of) same (named (suc g.0) g.2 g.3 g.4 (subst (λ (m : ℕ). stands_for of m g.2 ≡ Some h.0) (let z : 1 + g.0 ≡ suc g.0 = omega arith in z) h.1)))
+        let h = number_at_is (1 + g.0) g.2 n g.5 in
+        let same : h.0 ≡ f = some_is h.0 f (sym (procedure_row objects h.0 h.2) ∙ subst (λ (k : ℕ). slice_get (all_bricks objects) k ≡ Some f) h.3 at) in
+        subst (IsTaken objects of) same (named (suc g.0) g.2 g.3 g.4 (subst (λ (m : ℕ). stands_for of m g.2 ≡ Some h.0) (let z : 1 + g.0 ≡ suc g.0 = omega arith in z) h.1)))
   ]
     where
       one : (n k : ℕ) (f : Proc) → slice_get (all_bricks objects) n ≡ Some f → Some k ≡ Some n → IsAlwaysTaken k → k < 11 → IsTaken objects of f

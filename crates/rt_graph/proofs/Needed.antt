@@ -1,5 +1,5 @@
 -- The needs of procedures, as they are added up.
-use Rattle.std.proofs.Common.{◌≡◌, ℕ, zero, suc, ◌+◌, ◌-◌, ◌<◌, ◌≤◌, ◌⊎◌, inl, inr, ltb, if◌then◌else◌, Bool, true, false, List, [], ◌∷◌, ◌++◌, length, replicate, Option, Some, None, option_map, slice_get, slice_set, refl, sym, ap, ◌∙◌, subst, arith}
+use Rattle.std.proofs.Common.{◌≡◌, ℕ, zero, suc, ◌+◌, ◌-◌, ◌<◌, ◌≤◌, ◌⊎◌, inl, inr, ltb, if◌then◌else◌, Bool, true, false, List, [], ◌∷◌, ◌++◌, length, replicate, Option, Some, None, slice_get, slice_set, refl, sym, ap, ◌∙◌, subst, arith}
 use Rattle.std.proofs.lemmas.Bool.Decides.{nat_tests}
 use Rattle.std.proofs.lemmas.Option.{slice_get_within}
 use Rattle.rt_tree_nodes.specs.declared.store.Proc.{Proc}
@@ -8,9 +8,9 @@ use Rattle.rt_object.specs.declared.object.ObjectParts.{ObjectParts}
 use Rattle.rt_object.specs.declared.object.ProcContent.{ProcContent}
 use Rattle.rt_match.specs.declared.bindings.Bound.{Bound}
 use Rattle.rt_digraph.specs.Walks.{Has}
-use Rattle.rt_digraph.proofs.Lists.{no_element, some_is, get_left, get_end, get_cases, has_cases, has_end, has_left, long_one, set_same, set_other, set_long, get_there, get_replicate, long_replicate, last_is_new}
+use Rattle.rt_digraph.proofs.Lists.{no_element, some_is, get_left, has_cases, has_end, has_left, set_same, set_other, set_long, get_there, long_replicate}
 use Rattle.rt_digraph.proofs.Moves.{same_or_not}
-use Rattle.rt_graph.specs.Calls.{brick, numbered, proc_at, HasBody, HasFullMode, own, supplied, IsProcedure, IsSuppliedProc, IsCandidate, MayCall, Calls, at_point, in_service, MeetsErrors, int_taken}
+use Rattle.rt_graph.specs.Calls.{brick, numbered, proc_at, HasBody, own, supplied, IsProcedure, IsSuppliedProc, IsCandidate, MayCall, Calls, at_point, in_service, MeetsErrors, int_taken}
 use Rattle.rt_graph.specs.Classes.{class_in}
 use Rattle.rt_graph.specs.Needs.{IsGreatest, kept, counted, AtPoint, IsDeepest, NeedsBy, HasNeed, by_callees, AreNeeds}
 use Rattle.rt_graph.specs.Needs as needs
@@ -21,11 +21,10 @@ use Rattle.rt_graph.specs.Sums.{plus, greater, number_or_zero, need_at, node_nee
 use Rattle.rt_graph.specs.declared.sums.Found.{Found}
 use Rattle.rt_graph.specs.declared.table.Table.{Table}
 use Rattle.rt_graph.proofs.Classed.{candidate_class, class_candidate}
-use Rattle.rt_graph.proofs.Counted.{counted_sum, counted_twice, counted_greater, greater_counted, greater_left, greater_right, greater_either, one_greatest, none_greatest, single_greatest, same_greatest, more_greatest}
-use Rattle.rt_graph.proofs.Noded.{Leads, to_brick, to_class, callee_leads, callee_none, class_leads, class_none, meets_true, meets_is, total_is, row_below}
+use Rattle.rt_graph.proofs.Counted.{counted_sum, counted_twice, counted_greater, greater_counted, greater_left, greater_right, greater_either, none_greatest, single_greatest, same_greatest, more_greatest}
+use Rattle.rt_graph.proofs.Noded.{Leads, to_brick, to_class, callee_leads, callee_none, class_leads, class_none, meets_true, meets_is, row_below}
 use Rattle.rt_graph.proofs.Ordered.{reached_procedure}
 use Rattle.rt_graph.proofs.Procedures.{number_to, procedure_row}
-use Rattle.rt_graph.proofs.Rows.{single_at}
 
 below_test : (a b : ℕ) → a < b → ltb a b ≡ true
 below_test a b h = grind (arith, nat_tests)
@@ -81,24 +80,30 @@ module _ (objects : List ObjectParts) (of : List (List Bound)) (table : Table) (
   module _ (exact : List ℕ) (done : List Proc) (found : Found) (known : IsKnown exact done found) where
     leads_need : (May : Proc → Type 0) (y : ℕ) → Leads objects of table is May y → ((g : Proc) → May g → Has done g) → (v : ℕ) × IsGreatest May (need exact) v × (node_need table found (Some y) ≡ counted v)
     leads_need May y (to_brick f p at may one) all =
-        let below : y < total table = (let l = row_below objects of table is (place objects f) f (procedure_row objects f p) in omega arith) in
-        (need exact f, single_greatest May (need exact) f may one,
-         ap (λ (b : Bool). if b then need_at found.of y else need_at found.greatest (y - total table)) (below_test y (total table) below)
-         ∙ ap (need_at found.of) at ∙ known.each f (all f may))
+        let below : y < total table = (let l = row_below objects of table is (place objects f) f (procedure_row objects f p) in omega arith) in (
+          need exact f,
+          single_greatest May (need exact) f may one,
+          ap (λ (b : Bool). if b then need_at found.of y else need_at found.greatest (y - total table)) (below_test y (total table) below)
+              ∙ ap (need_at found.of) at ∙ known.each f (all f may),
+        )
     leads_need May y (to_class t c q at to from) all =
-        let g = known.greatest t c q in
-        (g.0, same_greatest (λ g. IsCandidate objects of t g × Has done g) May (need exact) (need exact) g.0 (λ a h. (from a h, all a h)) (λ a h. to a h.0) (λ a h. refl) g.1,
-         ap (λ (b : Bool). if b then need_at found.of y else need_at found.greatest (y - total table)) (above_test y (total table) (omega arith))
-         ∙ ap (need_at found.greatest) (let z : y - total table ≡ c = omega arith in z) ∙ g.2)
+        let g = known.greatest t c q in (
+          g.0,
+          same_greatest (λ g. IsCandidate objects of t g × Has done g) May (need exact) (need exact) g.0 (λ a h. (from a h, all a h)) (λ a h. to a h.0) (λ a h. refl) g.1,
+          ap (λ (b : Bool). if b then need_at found.of y else need_at found.greatest (y - total table)) (above_test y (total table) (omega arith))
+              ∙ ap (need_at found.greatest) (let z : y - total table ≡ c = omega arith in z) ∙ g.2,
+        )
 
     point_at : (m : ℕ) (o : ObjectParts) (c : Call) → ((g : Proc) → MayCall objects of m o c.target g → Has done g) → (v : ℕ) × AtPoint objects of (need exact) m o c v × (point_need objects of table found m o c ≡ counted v)
     point_at m o c all = by (callee objects of table m o c.target) refl
       where
         add_up : (x : Option ℕ) → callee objects of table m o c.target ≡ x → (v : ℕ) → IsGreatest (MayCall objects of m o c.target) (need exact) v → node_need table found x ≡ counted v → (v : ℕ) × AtPoint objects of (need exact) m o c v × (point_need objects of table found m o c ≡ counted v)
-        add_up x q v g e =
-            (c.depth + kept c.target + c.args + v, record { callee = v; greatest = g; sum = refl },
-             ap (λ (y : Option ℕ). plus (c.depth + kept c.target + c.args) (node_need table found y)) q
-             ∙ counted_sum (c.depth + kept c.target + c.args) (node_need table found x) v (ap counted e ∙ counted_twice v))
+        add_up x q v g e = (
+          c.depth + kept c.target + c.args + v,
+          record { callee = v; greatest = g; sum = refl },
+          ap (λ (y : Option ℕ). plus (c.depth + kept c.target + c.args) (node_need table found y)) q
+              ∙ counted_sum (c.depth + kept c.target + c.args) (node_need table found x) v (ap counted e ∙ counted_twice v),
+        )
 
         by : (x : Option ℕ) → callee objects of table m o c.target ≡ x → (v : ℕ) × AtPoint objects of (need exact) m o c v × (point_need objects of table found m o c ≡ counted v)
         by None q = add_up None q 0 (none_greatest (MayCall objects of m o c.target) (need exact) (λ g h. callee_none objects of table is m o c.target g q h)) refl
@@ -115,19 +120,22 @@ module _ (objects : List ObjectParts) (of : List (List Bound)) (table : Table) (
     deep_at m o (c ∷ cs) all a w e =
         let p = point_at m o c (λ g h. all c g (0, refl) h) in
         let r = deep_at m o cs (λ d g h may. all d g (suc h.0, h.1) may) (greater a (point_need objects of table found m o c)) (greater w p.0)
-            (counted_greater a (point_need objects of table found m o c) w p.0 e (ap counted p.2 ∙ counted_twice p.0)) in
-        let s : IsDeep m o cs (greater w p.0) r.0 = r.1 in
-        (r.0, record {
-          own = (let l = greater_left w p.0 in let k = s.own in omega arith);
-          points = each p.0 p.1 r.0 s;
-          had = elim s.had [
-            | inr f ↦ inr (f.0, (suc f.1.0, f.1.1), f.2)
-            | inl f ↦ elim (greater_either w p.0) [
-              | inl g ↦ inl (f ∙ g)
-              | inr g ↦ inr (c, (0, refl), subst (AtPoint objects of (need exact) m o c) (sym (f ∙ g)) p.1)
-            ]
-          ];
-        }, r.2)
+        (counted_greater a (point_need objects of table found m o c) w p.0 e (ap counted p.2 ∙ counted_twice p.0)) in
+        let s : IsDeep m o cs (greater w p.0) r.0 = r.1 in (
+          r.0,
+          record {
+            own = (let l = greater_left w p.0 in let k = s.own in omega arith);
+            points = each p.0 p.1 r.0 s;
+            had = elim s.had [
+              | inr f ↦ inr (f.0, (suc f.1.0, f.1.1), f.2)
+              | inl f ↦ elim (greater_either w p.0) [
+                | inl g ↦ inl (f ∙ g)
+                | inr g ↦ inr (c, (0, refl), subst (AtPoint objects of (need exact) m o c) (sym (f ∙ g)) p.1)
+              ]
+            ];
+          },
+          r.2,
+        )
       where
         each : (p : ℕ) → AtPoint objects of (need exact) m o c p → (n : ℕ) → IsDeep m o cs (greater w p) n → (d : Call) → Has (c ∷ cs) d → (v : ℕ) × AtPoint objects of (need exact) m o d v × (v ≤ n)
         each p at n s d (suc i, q) = s.points d (i, q)
@@ -138,11 +146,12 @@ module _ (objects : List ObjectParts) (of : List (List Bound)) (table : Table) (
     body_at : (f : Proc) (o : ObjectParts) (p : ProcContent) → HasBody objects f o p → ((g : Proc) → Calls objects of f g → Has done g) → (n : ℕ) × NeedsBy objects of (need exact) f n × (need_of objects of table found f ≡ counted n)
     body_at f o p body all =
         let d = deep_at f.«module» o p.calls (λ c g h may. all g (at_point c body h may)) p.deep p.deep refl in
-        let s : IsDeep f.«module» o p.calls p.deep d.0 = d.1 in
-        (2 + p.locals + d.0,
-         needs.own body (record { own = s.own; points = s.points; had = s.had }) refl,
-         in_it f.«module» f.brick body.of body.is
-         ∙ counted_sum (2 + p.locals) (deepest objects of table found f.«module» o p.calls p.deep) d.0 d.2)
+        let s : IsDeep f.«module» o p.calls p.deep d.0 = d.1 in (
+          2 + p.locals + d.0,
+          needs.own body (record { own = s.own; points = s.points; had = s.had }) refl,
+          in_it f.«module» f.brick body.of body.is
+              ∙ counted_sum (2 + p.locals) (deepest objects of table found f.«module» o p.calls p.deep) d.0 d.2,
+        )
       where
         in_it : (m b : ℕ) → numbered objects m ≡ Some o → proc_at o.bricks b ≡ Some p → need_in objects of table found m b ≡ plus (2 + p.locals) (deepest objects of table found m o p.calls p.deep)
         in_it zero b q r = absurd cc
@@ -155,11 +164,13 @@ module _ (objects : List ObjectParts) (of : List (List Bound)) (table : Table) (
       where
         sum : (x : Option ℕ) → class_node table int_taken ≡ x → MeetsErrors k → (v : ℕ) → IsGreatest (IsCandidate objects of int_taken) (need exact) v → node_need table found x ≡ counted v → meets_errors k ≡ true
             → (n : ℕ) × NeedsBy objects of (need exact) (brick 0 k) n × (need_of objects of table found (brick 0 k) ≡ counted n)
-        sum x q meets v g e t =
-            (2 + v, needs.service meets g,
-             ap (λ (b : Bool). if b then plus 2 (node_need table found (class_node table int_taken)) else 1) t
-             ∙ ap (λ (y : Option ℕ). plus 2 (node_need table found y)) q
-             ∙ counted_sum 2 (node_need table found x) v (ap counted e ∙ counted_twice v))
+        sum x q meets v g e t = (
+          2 + v,
+          needs.service meets g,
+          ap (λ (b : Bool). if b then plus 2 (node_need table found (class_node table int_taken)) else 1) t
+              ∙ ap (λ (y : Option ℕ). plus 2 (node_need table found y)) q
+              ∙ counted_sum 2 (node_need table found x) v (ap counted e ∙ counted_twice v),
+        )
 
         meeting : MeetsErrors k → meets_errors k ≡ true → (x : Option ℕ) → class_node table int_taken ≡ x → (n : ℕ) × NeedsBy objects of (need exact) (brick 0 k) n × (need_of objects of table found (brick 0 k) ≡ counted n)
         meeting meets t None q = sum None q meets 0 (none_greatest (IsCandidate objects of int_taken) (need exact) (λ g c. class_none objects of table is int_taken g q c)) refl t
@@ -246,19 +257,23 @@ module _ (objects : List ObjectParts) (of : List (List Bound)) (table : Table) (
           by None e (w, g, h) = (w, kept_on w (not_candidate None e (λ x. absurd cc)) g, ap (λ (o : Option ℕ). need_at (raise o (counted n) found.greatest) c) e ∙ h)
           by (Some d) e (w, g, h) = elim (same_or_not d c) [
             | inl same ↦ (
-              let at : slice_get table.classes.of (place objects f) ≡ Some (Some c) = flat_is (slice_get table.classes.of (place objects f)) d e ∙ ap (λ (x : ℕ). Some (Some x)) same in
-              let candidate = class_candidate objects of table.classes.map table.classes.of table.classes.count is.classes (place objects f) t f c (procedure_row objects f procedure) at q in
-              (greater w n,
-               subst (λ (k : ℕ). IsGreatest (After t) (need exact_after) (greater w k)) need_here
-                 (more_greatest (Before t) (After t) (need exact_after) w f
-                   (λ b k. elim (has_cases done f b k.1) [ inl l ↦ inl (k.0, l) | inr s ↦ inr s ])
-                   (λ b k. (k.0, has_left done f b k.1)) (candidate, has_end done f) (moved_on w g)),
-               ap (λ (o : Option ℕ). need_at (raise o (counted n) found.greatest) c) (e ∙ ap (λ (x : ℕ). Some x) same)
-               ∙ set_need found.greatest c (greater (need_at found.greatest c) (counted n)) below
-               ∙ counted_max (need_at found.greatest c) w h))
-            | inr other ↦ (w, kept_on w (not_candidate (Some d) e (λ x. other (some_is d c x))) g,
-               ap (λ (o : Option ℕ). need_at (raise o (counted n) found.greatest) c) e
-               ∙ set_apart found.greatest d c (greater (need_at found.greatest d) (counted n)) (λ x. other (sym x)) ∙ h)
+                let at : slice_get table.classes.of (place objects f) ≡ Some (Some c) = flat_is (slice_get table.classes.of (place objects f)) d e ∙ ap (λ (x : ℕ). Some (Some x)) same in
+                let candidate = class_candidate objects of table.classes.map table.classes.of table.classes.count is.classes (place objects f) t f c (procedure_row objects f procedure) at q in (
+                  greater w n,
+                  subst (λ (k : ℕ). IsGreatest (After t) (need exact_after) (greater w k)) need_here
+                      (more_greatest (Before t) (After t) (need exact_after) w f
+                      (λ b k. elim (has_cases done f b k.1) [ inl l ↦ inl (k.0, l) | inr s ↦ inr s ])
+                      (λ b k. (k.0, has_left done f b k.1)) (candidate, has_end done f) (moved_on w g)),
+                  ap (λ (o : Option ℕ). need_at (raise o (counted n) found.greatest) c) (e ∙ ap (λ (x : ℕ). Some x) same)
+                      ∙ set_need found.greatest c (greater (need_at found.greatest c) (counted n)) below
+                      ∙ counted_max (need_at found.greatest c) w h,
+                ))
+            | inr other ↦ (
+              w,
+              kept_on w (not_candidate (Some d) e (λ x. other (some_is d c x))) g,
+              ap (λ (o : Option ℕ). need_at (raise o (counted n) found.greatest) c) e
+                  ∙ set_apart found.greatest d c (greater (need_at found.greatest d) (counted n)) (λ x. other (sym x)) ∙ h,
+            )
           ]
 
       pub known_after : IsKnown exact_after (done ++ f ∷ []) found_after
@@ -288,18 +303,18 @@ module _ (objects : List ObjectParts) (of : List (List Bound)) (table : Table) (
         let here : slice_get whole (length done) ≡ Some f = subst (λ (l : List Proc). slice_get l (length done) ≡ Some f) (sym e) (at_end done f rest) in
         let procedure = reached_procedure objects of roots f (order.order.reached f (length done, here)) in
         let all : (g : Proc) → Calls objects of f g → Has done g = λ g c. (
-          let b = order.order.before (length done) f g here c in
-          (b.0, at_front done (f ∷ rest) b.0 g b.1 (subst (λ (l : List Proc). slice_get l b.0 ≡ Some g) e b.2))) in
+        let b = order.order.before (length done) f g here c in
+        (b.0, at_front done (f ∷ rest) b.0 g b.1 (subst (λ (l : List Proc). slice_get l b.0 ≡ Some g) e b.2))) in
         let new : Has done f → ⊥ = λ h. (
-          let at : slice_get whole h.0 ≡ Some f = subst (λ (l : List Proc). slice_get l h.0 ≡ Some f) (sym e) (get_left done (f ∷ rest) h.0 f h.1) in
-          let same = order.order.once h.0 (length done) f at here in
-          let l = slice_get_within done h.0 f h.1 in omega arith) in
+        let at : slice_get whole h.0 ≡ Some f = subst (λ (l : List Proc). slice_get l h.0 ≡ Some f) (sym e) (get_left done (f ∷ rest) h.0 f h.1) in
+        let same = order.order.once h.0 (length done) f at here in
+        let l = slice_get_within done h.0 f h.1 in omega arith) in
         let n = need_found exact done found known f procedure all in
         let after = known_after exact done found known f procedure new n.0 n.1 in
         let tail = needs_on (done ++ f ∷ []) rest (slice_set exact (place objects f) n.0) (note table (Some (place objects f)) (counted n.0) found) (e ∙ shifted done f rest) after in
         let step : needs_of objects of table (f ∷ rest) found ≡ counted n.0 ∷ needs_of objects of table rest (note table (Some (place objects f)) (counted n.0) found) =
-            ap (λ (k : ℕ). k ∷ needs_of objects of table rest (note table (number_of objects f) k found)) n.2
-            ∙ ap (λ (o : Option ℕ). counted n.0 ∷ needs_of objects of table rest (note table o (counted n.0) found)) (number_to objects f procedure) in
+        ap (λ (k : ℕ). k ∷ needs_of objects of table rest (note table (number_of objects f) k found)) n.2
+        ∙ ap (λ (o : Option ℕ). counted n.0 ∷ needs_of objects of table rest (note table o (counted n.0) found)) (number_to objects f procedure) in
         subst (AreNeeds objects of (f ∷ rest)) (sym step) (joined f rest n.0 n.1 (needs_of objects of table rest (note table (Some (place objects f)) (counted n.0) found)) tail)
       where
         at_end : (xs : List Proc) (x : Proc) (ys : List Proc) → slice_get (xs ++ x ∷ ys) (length xs) ≡ Some x

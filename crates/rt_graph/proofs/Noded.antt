@@ -5,7 +5,6 @@ use Rattle.std.proofs.lemmas.Option.{slice_get_within, slice_get-map}
 use Rattle.rt_modes.specs.FullMode.{FullMode}
 use Rattle.rt_modes.specs.declared.mode.Mode.{Mode, out-Mode}
 use Rattle.rt_modes.specs.declared.mode.Mode.TheOpen.{Mode-F}
-use Rattle.rt_modes.specs.declared.mode.ModeTable.{ModeTable}
 use Rattle.rt_tree_nodes.specs.declared.store.Proc.{Proc}
 use Rattle.rt_object.specs.Grammar.{is_proc, is_proc_layer}
 use Rattle.rt_object.specs.Ranges.{IsProcMode, IsProcLayer}
@@ -17,14 +16,14 @@ use Rattle.rt_object.specs.declared.object.Target.TheVariants as target
 use Rattle.rt_match.specs.declared.bindings.Bound.{Bound}
 use Rattle.rt_digraph.specs.Digraph.{listed, successors, Edge}
 use Rattle.rt_digraph.specs.Walks.{Has}
-use Rattle.rt_digraph.proofs.Lists.{no_element, some_is, get_left, get_there, has_end, has_left, has_cases, set_same, set_other, set_long, get_replicate, long_replicate, not_there}
+use Rattle.rt_digraph.proofs.Lists.{no_element, some_is, get_left, get_there, has_end, has_left, has_cases, set_same, set_other, set_long, get_replicate, long_replicate}
 use Rattle.rt_digraph.proofs.Moves.{same_or_not}
-use Rattle.rt_graph.specs.Calls.{brick, numbered, stands_for, proc_at, HasBody, IsProcedure, IsCandidate, IsCandidateOf, MayCall, by_name, through, at_error, Calls, at_point, in_service, MeetsErrors, int_taken}
-use Rattle.rt_graph.specs.Numbers.{all_bricks, place, in_object, body_of, number_of, and_then}
-use Rattle.rt_graph.specs.Classes.{class_in, taken_texts, add, grouped}
-use Rattle.rt_graph.specs.Nodes.{total, class_node, mode_node_by, mode_node, supplied_nodes, IsTable, callee, callees, meets_errors, with_one, body_nodes, nodes_in, nodes_of, call_graph}
+use Rattle.rt_graph.specs.Calls.{brick, numbered, stands_for, proc_at, IsProcedure, IsCandidate, MayCall, by_name, through, at_error, Calls, at_point, in_service, MeetsErrors, int_taken}
+use Rattle.rt_graph.specs.Numbers.{all_bricks, place, in_object, number_of, and_then}
+use Rattle.rt_graph.specs.Classes.{class_in, add, grouped}
+use Rattle.rt_graph.specs.Nodes.{total, class_node, mode_node_by, IsTable, callee, callees, meets_errors, with_one, body_nodes, nodes_in, nodes_of, call_graph}
 use Rattle.rt_graph.specs.declared.table.Table.{Table}
-use Rattle.rt_graph.proofs.Rows.{get_behind, get_joined, single_at}
+use Rattle.rt_graph.proofs.Rows.{get_joined, single_at}
 use Rattle.rt_graph.proofs.Procedures.{number_to, number_from, procedure_row}
 use Rattle.rt_graph.proofs.Classed.{candidate_class, class_candidate, class_there}
 use Rattle.rt_graph.proofs.Views.{IsView}
@@ -76,9 +75,9 @@ add_from g i n j x h = elim (same_or_not j i) [
 
     by : j ≡ i → (o : Option (List ℕ)) → slice_get g i ≡ o → Has (successors g j) x ⊎ ((j ≡ i) × (x ≡ n))
     by same None q = absurd (
-      let gone : slice_get (add g i n) i ≡ None = past g i (listed (slice_get g i) ++ n ∷ []) q in
-      let none : Has (listed None) x = subst (λ (o : Option (List ℕ)). Has (listed o) x) gone (subst (λ (k : ℕ). Has (successors (add g i n) k) x) same h) in
-      no_element none.0 x none.1)
+        let gone : slice_get (add g i n) i ≡ None = past g i (listed (slice_get g i) ++ n ∷ []) q in
+        let none : Has (listed None) x = subst (λ (o : Option (List ℕ)). Has (listed o) x) gone (subst (λ (k : ℕ). Has (successors (add g i n) k) x) same h) in
+        no_element none.0 x none.1)
     by same (Some ns) q =
         let here : Has (listed (slice_get g i) ++ n ∷ []) x = subst (λ (o : Option (List ℕ)). Has (listed o) x) (set_same g i (listed (slice_get g i) ++ n ∷ []) ns q) (subst (λ (k : ℕ). Has (successors (add g i n) k) x) same h) in
         elim (has_cases (listed (slice_get g i)) n x here) [ inl f ↦ inl (subst (λ (k : ℕ). Has (successors g k) x) (sym same) f) | inr f ↦ inr (same, f) ]
@@ -242,9 +241,11 @@ module _ (objects : List ObjectParts) (of : List (List Bound)) (table : Table) (
       in_it m b s None q z r g = absurd (no_element g.0 y g.1)
       in_it m b s (Some o) q None r g = absurd (no_element g.0 y g.1)
       in_it m b s (Some o) q (Some p) r g =
-          let c = callees_from (suc m) o p.calls y g in
-          (MayCall objects of (suc m) o c.0.target, callee_leads (suc m) o c.0.target y c.2,
-           λ k may. subst (λ (e : Proc). Calls objects of e k) s (at_point c.0 (record { of = q; is = r }) c.1 may))
+          let c = callees_from (suc m) o p.calls y g in (
+            MayCall objects of (suc m) o c.0.target,
+            callee_leads (suc m) o c.0.target y c.2,
+            λ k may. subst (λ (e : Proc). Calls objects of e k) s (at_point c.0 (record { of = q; is = r }) c.1 may),
+          )
 
       by : (m : ℕ) → f.«module» ≡ m → (b : ℕ) → f.brick ≡ b → Has (nodes_in objects of table m b) y → (May : Proc → Type 0) × Leads May y × ((g : Proc) → May g → Calls objects of f g)
       by zero q b r g = test (meets_errors b) refl g
@@ -340,9 +341,9 @@ module _ (objects : List ObjectParts) (of : List (List Bound)) (table : Table) (
   class_from c y d = elim (grouped_from (total table) 0 table.classes.of begun (total table + c) y d.listed) [
     | inl h ↦ absurd (begun_past (total table + c) y (omega arith) h)
     | inr h ↦ (
-      let same : h.1 ≡ c = (let e = h.3 in omega arith) in
-      let at : h.0 ≡ y = (let e = h.4 in omega arith) in
-      subst (λ (k : ℕ). slice_get table.classes.of k ≡ Some (Some c)) at (h.2 ∙ ap (λ (k : ℕ). Some (Some k)) same))
+        let same : h.1 ≡ c = (let e = h.3 in omega arith) in
+        let at : h.0 ≡ y = (let e = h.4 in omega arith) in
+        subst (λ (k : ℕ). slice_get table.classes.of k ≡ Some (Some c)) at (h.2 ∙ ap (λ (k : ℕ). Some (Some k)) same))
   ]
 
   class_to : (c y : ℕ) → c < table.classes.count → slice_get table.classes.of y ≡ Some (Some c) → y < length graph → Edge graph (total table + c) y
@@ -383,19 +384,27 @@ module _ (objects : List ObjectParts) (of : List (List Bound)) (table : Table) (
     where
       by : (y : ℕ) × Has (nodes_of objects of table a) y × (May : Proc → Type 0) × May b × Leads May y → (y : ℕ) × (slice_get row y ≡ Some b) × (Edge graph x y ⊎ ((c : ℕ) × (slice_get row c ≡ None) × Edge graph x c × Edge graph c y))
       by (y, has, May, may, to_brick g p at m one) =
-          let same : g ≡ b = one b may in
-          (y, subst (λ (k : ℕ). slice_get row k ≡ Some b) (sym at) (subst (λ (k : Proc). slice_get row (place objects g) ≡ Some k) same (procedure_row objects g p)),
-           inl (edge_to x y a e has (subst (λ (k : ℕ). k < length graph) (sym at) (place_there g p))))
+          let same : g ≡ b = one b may in (
+            y,
+            subst (λ (k : ℕ). slice_get row k ≡ Some b) (sym at) (subst (λ (k : Proc). slice_get row (place objects g) ≡ Some k) same (procedure_row objects g p)),
+            inl (edge_to x y a e has (subst (λ (k : ℕ). k < length graph) (sym at) (place_there g p))),
+          )
       by (y, has, May, may, to_class t c q at to from) =
           let h : IsCandidate objects of t b = from b may in
           let p : IsProcedure objects b = (t, h.mode) in
           let k = candidate_class objects of table.classes.map table.classes.of table.classes.count is.classes t b h in
           let same : k.0 ≡ c = some_is k.0 c (sym k.1 ∙ q) in
           let below : c < table.classes.count = is.classes.apart.below t c q in
-          let node : total table + c < length graph = (let g = graph_long in omega arith) in
-          (place objects b, procedure_row objects b p,
-           inr (total table + c, past_row c, edge_to x (total table + c) a e (subst (Has (nodes_of objects of table a)) at has) node,
-             class_to c (place objects b) below (subst (λ (j : ℕ). slice_get table.classes.of (place objects b) ≡ Some (Some j)) same k.2) (place_there b p)))
+          let node : total table + c < length graph = (let g = graph_long in omega arith) in (
+            place objects b,
+            procedure_row objects b p,
+            inr (
+              total table + c,
+              past_row c,
+              edge_to x (total table + c) a e (subst (Has (nodes_of objects of table a)) at has) node,
+              class_to c (place objects b) below (subst (λ (j : ℕ). slice_get table.classes.of (place objects b) ≡ Some (Some j)) same k.2) (place_there b p),
+            ),
+          )
 
   pub view : IsView row (Edge graph) (Calls objects of)
   view = record { near = near_by; far = far_by; all = all_by; single = single_at objects }

@@ -1,18 +1,18 @@
 -- The reached procedures in order, or a cycle.
-use Rattle.std.proofs.Common.{◌≡◌, ℕ, zero, suc, ◌+◌, ◌<◌, ◌⊎◌, inl, inr, List, [], ◌∷◌, length, Option, Some, None, Result, Ok, Err, slice_get, refl, sym, ap, ◌∙◌, subst, arith}
+use Rattle.std.proofs.Common.{◌≡◌, ℕ, zero, suc, inl, inr, List, [], ◌∷◌, Some, Result, Ok, Err, slice_get, refl, sym, ap, ◌∙◌, subst}
 use Rattle.std.specs.Result.{IfOk, IfErr}
 use Rattle.rt_tree_nodes.specs.declared.store.Proc.{Proc}
 use Rattle.rt_object.specs.declared.object.ObjectParts.{ObjectParts}
 use Rattle.rt_match.specs.declared.bindings.Bound.{Bound}
 use Rattle.rt_digraph.specs.Digraph.{Edge, IsSorted, IsRoot as IsRootNode, IsFirstOnCycle as IsFirstNode}
-use Rattle.rt_digraph.specs.Walks.{Has, Reached, root, next, IsOnCycle}
+use Rattle.rt_digraph.specs.Walks.{Has, root, next}
 use Rattle.rt_digraph.specs.declared.sorting.Sorted.{Sorted}
 use Rattle.rt_digraph.specs.declared.sorting.Sorted.TheVariants as sorted
 use Rattle.rt_digraph.proofs.Lists.{no_element, some_is}
-use Rattle.rt_graph.specs.Calls.{IsProcedure, MayCall, by_name, through, at_error, Calls, at_point, in_service, int_taken}
+use Rattle.rt_graph.specs.Calls.{IsProcedure, MayCall, by_name, through, at_error, Calls, at_point, in_service}
 use Rattle.rt_graph.specs.Numbers.{all_bricks, place, number_of}
-use Rattle.rt_graph.specs.Nodes.{IsTable, with_one, bricks_at, root_numbers, call_graph, IsInOrder, IsCycleIn}
-use Rattle.rt_graph.specs.Reach.{Earlier, IsRoot, IsReached, IsFirstOnCycle, IsCallOrder, IsRightCycle, IsRefused}
+use Rattle.rt_graph.specs.Nodes.{IsTable, bricks_at, root_numbers, call_graph, IsInOrder, IsCycleIn}
+use Rattle.rt_graph.specs.Reach.{IsRoot, IsReached, IsCallOrder, IsRightCycle, IsRefused}
 use Rattle.rt_graph.specs.declared.fault.GraphFault.{GraphFault}
 use Rattle.rt_graph.specs.declared.fault.GraphFault.TheVariants as fault
 use Rattle.rt_graph.specs.declared.table.Table.{Table}
@@ -92,12 +92,15 @@ module _ (objects : List ObjectParts) (of : List (List Bound)) where
     right_cycle : (ns : List ℕ) → IsSorted graph numbers (sorted.Cycle ns) → IsRightCycle objects of roots (bricks_at row ns)
     right_cycle ns h =
         let first : IsFirstNode graph numbers h.0 = h.1 in
-        let f = first_seen row (Edge graph) (Calls objects of) (view objects of table is) RootNode RootProc root_from root_to h.0 first.reached first.cycle first.least in
-        (f.0, record {
-          reached = reached_seen row (Edge graph) (Calls objects of) (view objects of table is) RootNode RootProc root_from root_to h.0 f.0 f.1 first.reached;
-          cycle = cycle_seen row (Edge graph) (Calls objects of) (view objects of table is) RootNode RootProc root_from root_to h.0 f.0 f.1 first.cycle;
-          least = λ g earlier. least_seen row (Edge graph) (Calls objects of) (view objects of table is) RootNode RootProc root_from root_to h.0 first.least g (λ y at. earlier_below objects y h.0 g f.0 at f.1 earlier);
-        }, cycle_picked row (Edge graph) (Calls objects of) (view objects of table is) h.0 f.0 ns f.1 h.2)
+        let f = first_seen row (Edge graph) (Calls objects of) (view objects of table is) RootNode RootProc root_from root_to h.0 first.reached first.cycle first.least in (
+          f.0,
+          record {
+            reached = reached_seen row (Edge graph) (Calls objects of) (view objects of table is) RootNode RootProc root_from root_to h.0 f.0 f.1 first.reached;
+            cycle = cycle_seen row (Edge graph) (Calls objects of) (view objects of table is) RootNode RootProc root_from root_to h.0 f.0 f.1 first.cycle;
+            least = λ g earlier. least_seen row (Edge graph) (Calls objects of) (view objects of table is) RootNode RootProc root_from root_to h.0 first.least g (λ y at. earlier_below objects y h.0 g f.0 at f.1 earlier);
+          },
+          cycle_picked row (Edge graph) (Calls objects of) (view objects of table is) h.0 f.0 ns f.1 h.2,
+        )
 
     pub cycle_right : (s : Sorted) (e : GraphFault) → IsSorted graph numbers s → IsCycleIn table.row.bricks s e → IsRefused objects of roots e
     cycle_right s fault.Memory h e = tt

@@ -8,9 +8,9 @@ use Rattle.rt_object.specs.declared.object.Brick.{Brick}
 use Rattle.rt_object.specs.declared.object.ObjectParts.{ObjectParts}
 use Rattle.rt_object.specs.declared.object.ProcContent.{ProcContent}
 use Rattle.rt_supplied.specs.Bricks.{brick_numbered, text_in}
-use Rattle.rt_digraph.proofs.Lists.{some_is, not_there}
-use Rattle.rt_graph.specs.Calls.{brick, numbered, proc_at, body_in, content_at, HasBody, HasFullMode, own, supplied, IsProcedure, IsSuppliedProc}
-use Rattle.rt_graph.specs.Numbers.{all_bricks, before, place, in_object, body_of, is_supplied, is_procedure_in, is_procedure, number_of, full_of, full_in, full_mode}
+use Rattle.rt_digraph.proofs.Lists.{some_is}
+use Rattle.rt_graph.specs.Calls.{brick, numbered, proc_at, body_in, content_at, HasFullMode, own, supplied, IsProcedure, IsSuppliedProc}
+use Rattle.rt_graph.specs.Numbers.{all_bricks, before, place, in_object, is_supplied, is_procedure_in, is_procedure, number_of, full_of, full_in, full_mode}
 use Rattle.rt_graph.proofs.Rows as rows
 use Rattle.rt_graph.proofs.Rows.{IsAt, row_at, place_at}
 

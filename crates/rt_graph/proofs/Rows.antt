@@ -1,10 +1,9 @@
 -- The row of a system: where each brick stands.
-use Rattle.std.proofs.Common.{◌≡◌, ℕ, zero, suc, ◌+◌, ◌-◌, ◌*◌, ◌<◌, ◌≤◌, ◌⊎◌, inl, inr, List, [], ◌∷◌, ◌++◌, length, replicate, drop, get_or, Option, Some, None, slice_get, refl, sym, ap, ◌∙◌, subst, arith}
-use Rattle.std.proofs.lemmas.Option.{slice_get_within}
+use Rattle.std.proofs.Common.{◌≡◌, ℕ, zero, suc, ◌+◌, ◌-◌, ◌<◌, ◌≤◌, ◌⊎◌, inl, inr, List, [], ◌∷◌, ◌++◌, length, replicate, Some, slice_get, refl, sym, ap, ◌∙◌, subst, arith}
 use Rattle.rt_tree_nodes.specs.declared.store.Proc.{Proc}
 use Rattle.rt_object.specs.declared.object.ObjectParts.{ObjectParts}
 use Rattle.rt_digraph.proofs.Lists.{no_element, some_is, get_left}
-use Rattle.rt_graph.specs.Calls.{brick, numbered}
+use Rattle.rt_graph.specs.Calls.{brick}
 use Rattle.rt_graph.specs.Numbers.{bricks_from, modules_from, all_bricks, before, place_in, place}
 use Rattle.rt_graph.specs.Reach.{Earlier}
 

@@ -1,12 +1,9 @@
 -- The needs of roots against the words of stacks.
-use Rattle.std.proofs.Common.{◌≡◌, ℕ, zero, suc, ◌+◌, ◌<◌, ◌≤◌, ◌⊎◌, inl, inr, ltb, eqb, ◌&&◌, if◌then◌else◌, min, Bool, true, false, List, [], ◌∷◌, length, drop, Option, Some, None, slice_get, refl, sym, ap, ◌∙◌, subst, arith}
+use Rattle.std.proofs.Common.{◌≡◌, ℕ, zero, suc, ◌+◌, ◌<◌, ◌≤◌, inl, inr, ltb, eqb, ◌&&◌, if◌then◌else◌, min, Bool, true, false, List, [], ◌∷◌, length, drop, Option, Some, None, slice_get, refl, sym, ap, ◌∙◌, subst, arith}
 use Rattle.std.proofs.lemmas.Bool.Decides.{nat_tests}
-use Rattle.rt_modes.specs.FullMode.{FullMode}
 use Rattle.rt_tree_nodes.specs.declared.store.Proc.{Proc}
 use Rattle.rt_object.specs.declared.object.Brick.{Brick}
 use Rattle.rt_object.specs.declared.object.BrickKind.{BrickKind}
-use Rattle.rt_object.specs.declared.object.BrickKind.TheVariants.{Ent}
-use Rattle.rt_object.specs.declared.object.Content.TheVariants as content
 use Rattle.rt_object.specs.declared.object.ObjectParts.{ObjectParts}
 use Rattle.rt_match.specs.declared.bindings.Bound.{Bound}
 use Rattle.rt_system.specs.declared.parts.Task.{Task}
@@ -17,7 +14,7 @@ use Rattle.rt_graph.specs.Calls.{brick, body_in, content_at, content_of, own, Is
 use Rattle.rt_graph.specs.Needs.{counted, HasNeed, AreNeeds}
 use Rattle.rt_graph.specs.Numbers.{and_then}
 use Rattle.rt_graph.specs.Scans.{is_same, told_need, less_by, less, small, root_named, stack_named}
-use Rattle.rt_graph.specs.Tasks.{IsRootNamed, IsStackNamed, IsGood, AreRoots, HasEnough, IsFirstSmall, AreFound}
+use Rattle.rt_graph.specs.Tasks.{IsRootNamed, IsGood, HasEnough, IsFirstSmall, AreFound}
 use Rattle.rt_graph.proofs.Tasked.{root_is, root_to, stack_is, stack_to}
 use Rattle.rt_graph.proofs.Unique.{one_need}
 

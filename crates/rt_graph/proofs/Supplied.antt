@@ -1,5 +1,5 @@
 -- The texts of supplied procedures.
-use Rattle.std.proofs.Common.{◌≡◌, ℕ, zero, suc, ◌-◌, ◌≤◌, arith, Bool, true, false, Some, slice_get, refl, sym, ap, ◌∙◌}
+use Rattle.std.proofs.Common.{◌≡◌, ℕ, zero, suc, ◌-◌, ◌≤◌, arith, true, false, Some, slice_get, sym, ap}
 use Rattle.rt_supplied.specs.Bricks.{brick_numbered, text_in, text_of}
 use Rattle.rt_supplied.specs.declared.supplied.Supplied.{Supplied}
 use Rattle.rt_supplied.specs.declared.supplied.TheConstants.{SUPPLIED}

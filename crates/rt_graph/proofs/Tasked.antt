@@ -1,9 +1,6 @@
 -- The roots and stacks of tasks, as they are looked for.
-use Rattle.std.proofs.Common.{◌≡◌, ℕ, zero, suc, ◌+◌, ◌<◌, ◌≤◌, ◌⊎◌, inl, inr, ltb, eqb, ◌&&◌, ◌||◌, if◌then◌else◌, Bool, true, false, List, [], ◌∷◌, length, take, Option, Some, None, option_map, slice_get, min, refl, sym, ap, ◌∙◌, subst, arith}
-use Rattle.std.specs.List.{list_any}
+use Rattle.std.proofs.Common.{◌≡◌, ℕ, zero, suc, ◌+◌, ◌<◌, ◌⊎◌, inl, inr, ◌||◌, if◌then◌else◌, Bool, true, false, List, [], ◌∷◌, take, Option, Some, None, option_map, slice_get, refl, sym, ap, ◌∙◌, subst, arith}
 use Rattle.std.specs.Str.{bytes_eq}
-use Rattle.std.proofs.lemmas.Bool.Decides.{nat_tests}
-use Rattle.std.proofs.lemmas.Option.{slice_get_within}
 use Rattle.std.proofs.lemmas.Slice.Eq.{bytes_eq-Decides}
 use Rattle.rt_modes.specs.declared.mode.Mode.{Mode, out-Mode}
 use Rattle.rt_modes.specs.declared.mode.Mode.TheOpen.{Mode-F}
@@ -21,7 +18,7 @@ use Rattle.rt_graph.specs.Calls.{brick, numbered}
 use Rattle.rt_graph.specs.Reach.{Earlier}
 use Rattle.rt_graph.specs.Scans.{ent_content, ent_of, or_else, entry_in, entry_from, entry_named, is_int_layer, is_root_layer, is_root_mode, root_in, root_named, stack_in, stack_named, has_stack, good_with, good_root}
 use Rattle.rt_graph.specs.Tasks.{IsIntLayer, IsRootLayer, IsRootMode, IsEntry, IsFirstEntry, IsRootNamed, IsStackNamed, IsStackBefore, IsGood, IsBad}
-use Rattle.rt_graph.proofs.Rows.{order_or, not_both}
+use Rattle.rt_graph.proofs.Rows.{order_or}
 
 -- ---- one brick
 
@@ -180,9 +177,9 @@ module _ (objects : List ObjectParts) where
           elim earlier [
             | inl less ↦ (let b : ent_of name entry.found ≡ None = modules m.0 entry.object (let e = m.1 in omega arith) m.2 h.brick entry.found entry.at in cc)
             | inr same ↦ (
-              let is : m.0 ≡ k = (let e = m.1 in let s = same.0 in omega arith) in
-              let one : entry.object ≡ o = some_is entry.object o (sym m.2 ∙ subst (λ (j : ℕ). slice_get objects j ≡ Some o) (sym is) at) in
-              let b : ent_of name entry.found ≡ None = bricks h.brick entry.found (let l = same.1 in omega arith) (subst (λ (y : ObjectParts). slice_get y.bricks h.brick ≡ Some entry.found) one entry.at) in cc)
+                let is : m.0 ≡ k = (let e = m.1 in let s = same.0 in omega arith) in
+                let one : entry.object ≡ o = some_is entry.object o (sym m.2 ∙ subst (λ (j : ℕ). slice_get objects j ≡ Some o) (sym is) at) in
+                let b : ent_of name entry.found ≡ None = bricks h.brick entry.found (let l = same.1 in omega arith) (subst (λ (y : ObjectParts). slice_get y.bricks h.brick ≡ Some entry.found) one entry.at) in cc)
           ]
 
   pub entry_none : (name : List ℕ) → entry_named objects name ≡ None → (g : Proc) (d : Content) → IsEntry objects name g d → ⊥
@@ -332,11 +329,14 @@ module _ (objects : List ObjectParts) where
       by : (o : Option ℕ) → stack_named objects t.stack ≡ o → (b : Bool) → has_stack t.stack (take i tasks) ≡ b → good_with o b (root_named objects t.root) ≡ Some f → (words : ℕ) × IsGood objects tasks i t f words
       by None q b r h = absurd cc
       by (Some n) q true r h = absurd cc
-      by (Some n) q false r h = (n, record {
-        root = root_is t.root f h;
-        stack = stack_is t.stack n q;
-        own = λ g. absurd (let k = before_to tasks i g.0 g.1 t.stack g.2 g.3 g.4 in let z : true ≡ false = sym k ∙ r in cc);
-      })
+      by (Some n) q false r h = (
+        n,
+        record {
+          root = root_is t.root f h;
+          stack = stack_is t.stack n q;
+          own = λ g. absurd (let k = before_to tasks i g.0 g.1 t.stack g.2 g.3 g.4 in let z : true ≡ false = sym k ∙ r in cc);
+        },
+      )
 
   pub good_to : (tasks : List Task) (i : ℕ) (t : Task) (f : Proc) (words : ℕ) → IsGood objects tasks i t f words → good_root objects (take i tasks) t ≡ Some f
   good_to tasks i t f words g =

@@ -1,5 +1,5 @@
 -- The need of a procedure, looked for.
-use Rattle.std.proofs.Common.{◌≡◌, ℕ, zero, suc, ◌+◌, ◌<◌, Bool, true, false, if◌then◌else◌, List, [], ◌∷◌, length, drop, Option, Some, None, slice_get, refl, sym, ap, ◌∙◌, subst, arith}
+use Rattle.std.proofs.Common.{◌≡◌, ℕ, zero, suc, ◌+◌, Bool, false, if◌then◌else◌, List, [], ◌∷◌, drop, Some, slice_get, refl, sym, ap, ◌∙◌, arith}
 use Rattle.rt_tree_nodes.specs.declared.store.Proc.{Proc}
 use Rattle.rt_digraph.proofs.Lists.{no_element, some_is}
 use Rattle.rt_graph.specs.Scans.{is_same, told_need}

@@ -1,21 +1,21 @@
 -- A procedure has one need, and what follows from it.
-use Rattle.std.proofs.Common.{◌≡◌, ℕ, zero, suc, ◌+◌, ◌<◌, ◌≤◌, ◌⊎◌, inl, inr, List, Option, Some, None, refl, sym, ap, ◌∙◌, subst, arith}
+use Rattle.std.proofs.Common.{◌≡◌, ℕ, ◌+◌, ◌≤◌, inl, inr, List, Some, None, refl, sym, ap, ◌∙◌, subst, arith}
 use Rattle.rt_tree_nodes.specs.declared.store.Proc.{Proc}
 use Rattle.rt_object.specs.declared.object.Call.{Call}
 use Rattle.rt_object.specs.declared.object.ObjectParts.{ObjectParts}
 use Rattle.rt_object.specs.declared.object.ProcContent.{ProcContent}
 use Rattle.rt_match.specs.declared.bindings.Bound.{Bound}
-use Rattle.rt_digraph.specs.Walks.{Has, Reached, next, IsOrder, HaveAllBefore}
+use Rattle.rt_digraph.specs.Walks.{Has}
 use Rattle.rt_digraph.proofs.Lists.{some_is}
-use Rattle.rt_graph.specs.Calls.{brick, numbered, proc_at, HasBody, IsCandidate, MayCall, Calls, at_point, in_service, MeetsErrors, IsSuppliedProc, int_taken}
-use Rattle.rt_graph.specs.Needs.{IsGreatest, kept, AtPoint, IsDeepest, NeedsBy, own, plain, service, HasNeed, by_callees}
+use Rattle.rt_graph.specs.Calls.{brick, proc_at, HasBody, IsCandidate, MayCall, Calls, at_point, in_service, int_taken}
+use Rattle.rt_graph.specs.Needs.{AtPoint, IsDeepest, NeedsBy, own, plain, service, HasNeed, by_callees}
 use Rattle.rt_graph.proofs.Counted.{one_greatest, same_greatest}
 
 module _ (objects : List ObjectParts) (of : List (List Bound)) where
-  no_body : (k : ℕ) (o : ObjectParts) (p : ProcContent) → HasBody objects (brick 0 k) o p → ⊥
+  pub no_body : (k : ℕ) (o : ObjectParts) (p : ProcContent) → HasBody objects (brick 0 k) o p → ⊥
   no_body k o p body = let e : None ≡ Some o = body.of in cc
 
-  one_object : (f : Proc) (o x : ObjectParts) (p q : ProcContent) → HasBody objects f o p → HasBody objects f x q → (o ≡ x) × (p ≡ q)
+  pub one_object : (f : Proc) (o x : ObjectParts) (p q : ProcContent) → HasBody objects f o p → HasBody objects f x q → (o ≡ x) × (p ≡ q)
   one_object f o x p q b c =
       let s : o ≡ x = some_is o x (sym b.of ∙ c.of) in
       (s, some_is p q (sym b.is ∙ ap (λ (y : ObjectParts). proc_at y.bricks f.brick) s ∙ c.is))
@@ -32,10 +32,10 @@ module _ (objects : List ObjectParts) (of : List (List Bound)) where
     below_other o p body w v d e = elim d.had [
       | inl same_deep ↦ (let l = e.own in omega arith)
       | inr h ↦ (
-        let at = point_other o p body h.0 w h.1 h.2 in
-        let q = e.points h.0 h.1 in
-        let one = one_greatest (MayCall objects of f.«module» o h.0.target) other at.callee q.1.callee at.greatest q.1.greatest in
-        let a = at.sum in let b = q.1.sum in let l = q.2 in omega arith)
+          let at = point_other o p body h.0 w h.1 h.2 in
+          let q = e.points h.0 h.1 in
+          let one = one_greatest (MayCall objects of f.«module» o h.0.target) other at.callee q.1.callee at.greatest q.1.greatest in
+          let a = at.sum in let b = q.1.sum in let l = q.2 in omega arith)
     ]
 
   one_by : (need other : Proc → ℕ) (f : Proc) → ((g : Proc) → Calls objects of f g → need g ≡ other g) → (m n : ℕ) → NeedsBy objects of need f m → NeedsBy objects of other f n → m ≡ n

@@ -2,8 +2,8 @@
 -- stand between them.
 use Rattle.std.proofs.Common.{◌≡◌, ℕ, zero, suc, ◌+◌, ◌<◌, ◌≤◌, ◌⊎◌, inl, inr, List, [], ◌∷◌, ◌++◌, length, Option, Some, None, slice_get, refl, sym, ap, ◌∙◌, subst, arith}
 use Rattle.std.proofs.lemmas.Option.{slice_get_within}
-use Rattle.rt_digraph.specs.Walks.{Has, AreDifferent, Walk, one, more, Reached, root, next, IsOnCycle, EachLeads, HaveAllBefore, IsCycleOf, IsOrder}
-use Rattle.rt_digraph.proofs.Lists.{no_element, some_is, get_left, get_end, get_cases, not_there}
+use Rattle.rt_digraph.specs.Walks.{Has, AreDifferent, Walk, one, more, Reached, root, next, IsOnCycle, EachLeads, IsCycleOf, IsOrder}
+use Rattle.rt_digraph.proofs.Lists.{no_element, some_is, get_left, not_there}
 use Rattle.rt_graph.specs.Nodes.{with_one, bricks_at}
 
 -- ---- lists from their front
@@ -129,8 +129,8 @@ module _ {A : Type 0} (row : List A) where
       by : (o : Option A) → slice_get row x ≡ o → AreDifferent (bricks_at row xs) → AreDifferent (bricks_at row (x ∷ xs))
       by None q h = subst AreDifferent (sym (at_none x xs q)) h
       by (Some c) q h = subst AreDifferent (sym (at_some x xs c q)) (different_cons c (bricks_at row xs) h (λ has.
-        let p = picked xs has.0 c has.1 in
-        different_head x xs d (p.place, subst (λ (z : ℕ). slice_get xs p.place ≡ Some z) (single p.node x c p.is q) p.there)))
+          let p = picked xs has.0 c has.1 in
+          different_head x xs d (p.place, subst (λ (z : ℕ). slice_get xs p.place ≡ Some z) (single p.node x c p.is q) p.there)))
 
   picked_end : (xs : List ℕ) (x : ℕ) (a : A) → slice_get row x ≡ Some a → bricks_at row (xs ++ x ∷ []) ≡ bricks_at row xs ++ a ∷ []
   picked_end [] x a q = at_some x [] a q
@@ -263,15 +263,15 @@ module _ {A : Type 0} (row : List A) (E : ℕ → ℕ → Type 0) (R : A → A �
       reached = λ a h. (let p = picked row xs h.0 a h.1 in (reached_from p.node (o.reached p.node (p.place, p.there))).seen a p.is);
       all = λ a r. (let f = reached_to a r in let h = o.all f.0 f.2 in has_picked row xs h.0 f.0 a h.1 f.1);
       before = λ i a b e r. (
-        let p = picked row xs i a e in
-        let g = view.all p.node a b p.is r in
-        elim g.2 [
-          | inl f ↦ (let k = o.before p.place p.node g.0 p.there f in p.front k.0 g.0 b k.1 k.2 g.1)
-          | inr f ↦ (
-            let k = o.before p.place p.node f.0 p.there f.2 in
-            let l = o.before k.0 f.0 g.0 k.2 f.3 in
-            p.front l.0 g.0 b (let s = k.1 in let t = l.1 in omega arith) l.2 g.1)
-        ]);
+          let p = picked row xs i a e in
+          let g = view.all p.node a b p.is r in
+          elim g.2 [
+            | inl f ↦ (let k = o.before p.place p.node g.0 p.there f in p.front k.0 g.0 b k.1 k.2 g.1)
+            | inr f ↦ (
+                let k = o.before p.place p.node f.0 p.there f.2 in
+                let l = o.before k.0 f.0 g.0 k.2 f.3 in
+                p.front l.0 g.0 b (let s = k.1 in let t = l.1 in omega arith) l.2 g.1)
+          ]);
     }
 
     pub none_picked : ((x : ℕ) → Reached E RootE x → IsOnCycle E x → ⊥) → (a : A) → Reached R RootA a → IsOnCycle R a → ⊥

@@ -8,7 +8,7 @@ use Rattle.rt_tree_nodes.specs.declared.store.Proc.{Proc}
 use Rattle.rt_object.specs.Ranges.{IsProcMode}
 use Rattle.rt_object.specs.declared.object.Brick.{Brick}
 use Rattle.rt_object.specs.declared.object.BrickKind.{BrickKind}
-use Rattle.rt_object.specs.declared.object.BrickKind.TheVariants.{Own, Ent, Ext, Svc}
+use Rattle.rt_object.specs.declared.object.BrickKind.TheVariants.{Own, Ent}
 use Rattle.rt_object.specs.declared.object.Call.{Call}
 use Rattle.rt_object.specs.declared.object.Content.{Content}
 use Rattle.rt_object.specs.declared.object.Content.TheVariants as content

@@ -9,3 +9,4 @@ pub mod Classes
 pub mod Nodes
 pub mod Sums
 pub mod Scans
+pub mod Laws

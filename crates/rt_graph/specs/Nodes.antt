@@ -16,8 +16,8 @@ use Rattle.rt_digraph.specs.declared.sorting.Sorted.TheVariants as sorted
 use Rattle.rt_graph.specs.declared.fault.GraphFault.{GraphFault}
 use Rattle.rt_graph.specs.declared.fault.GraphFault.TheVariants as fault
 use Rattle.rt_graph.specs.Calls.{brick, numbered, stands_for, int_taken}
-use Rattle.rt_graph.specs.Numbers.{all_bricks, body_of, number_of, and_then}
-use Rattle.rt_graph.specs.Classes.{ClassMap, class_in, AreApart, AreClasses, taken_texts, grouped}
+use Rattle.rt_graph.specs.Numbers.{body_of, number_of, and_then}
+use Rattle.rt_graph.specs.Classes.{class_in, AreApart, AreClasses, taken_texts, grouped}
 use Rattle.rt_graph.specs.Rows.{IsRow}
 use Rattle.rt_graph.specs.declared.table.Table.{Table}
 

@@ -1,5 +1,5 @@
 -- What roots reach in the call graph, and the cycles there.
-use Rattle.std.specs.Prelude.{◌≡◌, ◌⊎◌, ◌<◌, ℕ, List}
+use Rattle.std.specs.Prelude.{◌≡◌, ◌⊎◌, ◌<◌, List}
 use Rattle.rt_tree_nodes.specs.declared.store.Proc.{Proc}
 use Rattle.rt_object.specs.declared.object.ObjectParts.{ObjectParts}
 use Rattle.rt_match.specs.declared.bindings.Bound.{Bound}

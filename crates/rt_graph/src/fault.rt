@@ -11,21 +11,13 @@ pub enum GraphFault {
     Memory,
     /// A procedure that a root reaches lies on a cycle of calls, which begins and ends with the first such procedure.
     #[error("recursion")]
-    Recursion {
-        cycle: List<Proc>,
-    },
+    Recursion { cycle: List<Proc> },
     /// A task's stack has fewer words than its root needs.
     #[error("a stack of {has} words where {need} are needed")]
-    SmallStack {
-        task: Name,
-        need: u32,
-        has: u16,
-    },
+    SmallStack { task: Name, need: u32, has: u16 },
     /// A task's root is no procedure that may be one, or its stack is none of its own.
     #[error("line {line}: no root, or no stack of its own")]
-    BadTask {
-        line: u32,
-    },
+    BadTask { line: u32 },
 }
 
 impl From<Memory> for GraphFault {

@@ -6,6 +6,7 @@
 
 mod classes;
 mod fault;
+mod laws;
 mod members;
 mod nodes;
 mod places;
@@ -19,6 +20,7 @@ mod taken;
 mod tasks;
 
 pub use fault::GraphFault;
+pub use laws::{needs_are_exact, reached_is_closed, some_are_always_candidates, stacks_are_exact};
 pub use members::candidates;
 pub use reached::Order;
 pub use rt_tree_nodes::Proc;

@@ -35,9 +35,7 @@ pub fn callee(
     ensures { IfOk result (λ node. node ≡ spec.callee objects.now bindings.now.of table.now «module» object.now target.now) }
 {
     match target {
-        Target::Brick(brick) => Ok(number_taken(
-            objects, bindings, &table.row, module, *brick,
-        )),
+        Target::Brick(brick) => Ok(number_taken(objects, bindings, &table.row, module, *brick)),
         Target::Mode(mode) => mode_node(alloc, table, &object.records, mode),
         Target::Error => Ok(error_node(table)),
     }

@@ -9,8 +9,8 @@ ghost use Rattle.rt_graph.specs.Reach.{IsCallOrder, IsRefused};
 ghost use Rattle.rt_graph.specs.Rows.{IsRow};
 
 use crate::fault::GraphFault;
-use crate::reached::Order;
 use crate::nodes::{call_graph, push_some};
+use crate::reached::Order;
 use crate::row::Row;
 use crate::table::Table;
 use crate::taken::taken_texts;

@@ -11,8 +11,8 @@ ghost use Rattle.rt_graph.specs.Rows.{IsRow};
 ghost use Rattle.rt_graph.specs.Sums as spec;
 
 use crate::nodes::{callee, error_node, meets_errors};
-use crate::reached::Order;
 use crate::places::{body_of, object_at};
+use crate::reached::Order;
 use crate::row::Row;
 use crate::table::Table;
 use crate::taken::taken_texts;

@@ -1,4 +1,4 @@
-use Rattle.std.proofs.Common.{◌≡◌, ℕ, List, [], sym, ◌∙◌, subst}
+use Rattle.std.proofs.Common.{◌≡◌, [], sym, ◌∙◌, subst}
 use Rattle.rt_graph.specs.Candidates.{AreCandidates, members}
 use Rattle.rt_graph.specs.Nodes.{total}
 use Rattle.rt_graph.proofs.Found.{candidates_some, candidates_none}

@@ -1,4 +1,4 @@
-use Rattle.std.proofs.Common.{◌≡◌, ◌-◌, ℕ, slice_get, Bool, List, Option, Some, None, if◌then◌else◌, sym, ap, ◌∙◌, subst}
+use Rattle.std.proofs.Common.{◌≡◌, ◌-◌, ℕ, slice_get, Bool, List, Some, None, if◌then◌else◌, sym, ap, ◌∙◌, subst}
 use Rattle.rt_supplied.specs.Bricks.{brick_numbered, text_in}
 use Rattle.rt_supplied.specs.declared.supplied.TheConstants.{SUPPLIED}
 use Rattle.rt_graph.proofs.Supplied.{text_is}

@@ -31,13 +31,15 @@ loop-at-preserved c =
       size = ap length c.in_ok-push.ensures.ok ∙ long_one c.loop-at.firsts c.loop-at.first ∙ ap (λ (k : ℕ). k + 1) size;
       small = omega arith;
       each = λ m h. elim (same_or_not m at) [
-        | inl same ↦ (subst (λ (xs : _). slice_get xs m ≡ Some (11 + before objects m)) (sym c.in_ok-push.ensures.ok)
-            (subst (λ (k : ℕ). slice_get (c.loop-at.firsts ++ c.loop-at.first ∷ []) k ≡ Some (11 + before objects k)) (sym same)
+        | inl same ↦ (
+          subst (λ (xs : _). slice_get xs m ≡ Some (11 + before objects m)) (sym c.in_ok-push.ensures.ok)
+              (subst (λ (k : ℕ). slice_get (c.loop-at.firsts ++ c.loop-at.first ∷ []) k ≡ Some (11 + before objects k)) (sym same)
               (subst (λ (k : ℕ). slice_get (c.loop-at.firsts ++ c.loop-at.first ∷ []) k ≡ Some (11 + before objects at)) size
-                (get_end c.loop-at.firsts c.loop-at.first ∙ ap (λ (k : ℕ). Some k) first))),
-          subst (λ (k : ℕ). before objects k ≤ 65535 * k) (sym same) small)
+              (get_end c.loop-at.firsts c.loop-at.first ∙ ap (λ (k : ℕ). Some k) first))),
+          subst (λ (k : ℕ). before objects k ≤ 65535 * k) (sym same) small,
+        )
         | inr other ↦ (let old = c.loop-at.invariant.each m (below m at h other) in
-          (subst (λ (xs : _). slice_get xs m ≡ Some (11 + before objects m)) (sym c.in_ok-push.ensures.ok) (get_left c.loop-at.firsts (c.loop-at.first ∷ []) m (11 + before objects m) old.0), old.1))
+            (subst (λ (xs : _). slice_get xs m ≡ Some (11 + before objects m)) (sym c.in_ok-push.ensures.ok) (get_left c.loop-at.firsts (c.loop-at.first ∷ []) m (11 + before objects m) old.0), old.1))
       ];
     }
   where

@@ -1,4 +1,4 @@
-use Rattle.std.proofs.Common.{ℕ, List, sym, ◌∙◌, subst}
+use Rattle.std.proofs.Common.{ℕ, List, ◌∙◌, subst}
 use Rattle.rt_tree_nodes.specs.declared.store.Proc.{Proc}
 use Rattle.rt_digraph.specs.Digraph.{IsSorted}
 use Rattle.rt_graph.specs.Nodes.{call_graph, IsInOrder, IsCycleIn}

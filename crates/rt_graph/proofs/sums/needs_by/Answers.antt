@@ -15,5 +15,5 @@ returns c =
     let found : Found = record { of = c.in_ok-zeros.field-0; greatest = c.in_ok-zeros-2.field-0 } in
     if_ok (λ ns. ns ≡ needs_of objects of table c.as_slice.result.now found) (AreNeeds objects of c.args.order.now.procs) c.needs_of.result
     (λ ns e. subst (AreNeeds objects of c.args.order.now.procs) (sym (e ∙ ap (λ (fs : List Proc). needs_of objects of table fs found) c.as_slice.ensures))
-      (needs_right objects of table c.in_ok-table.ensures c.requires.order.0 c.args.order.now.procs c.requires.order.1 found (c.in_ok-zeros.ensures ∙ ap (λ (k : ℕ). replicate k 0) c.len.ensures) c.in_ok-zeros-2.ensures))
+    (needs_right objects of table c.in_ok-table.ensures c.requires.order.0 c.args.order.now.procs c.requires.order.1 found (c.in_ok-zeros.ensures ∙ ap (λ (k : ℕ). replicate k 0) c.len.ensures) c.in_ok-zeros-2.ensures))
     c.needs_of.ensures
