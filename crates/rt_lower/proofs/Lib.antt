@@ -6,3 +6,4 @@ pub mod Whole
 pub mod Sizes
 pub mod Listing
 pub mod Alone
+pub mod Offsets

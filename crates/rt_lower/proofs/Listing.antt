@@ -34,10 +34,8 @@ offset_by t fs ns k x j n l h b (inr e) = subst (λ i. Begins t fs i n) (sym l �
 
 -- one offset more
 pub offset_more : (t : Table) (fs : List Field) (ns : List ℕ) (k x : ℕ) (new : List ℕ) → new ≡ ns ++ x ∷ [] → length ns ≡ k → ((j n : ℕ) → slice_get ns j ≡ Some n → Begins t fs j n)
-    → ((n : ℕ) × Begins t fs k n × (counted n ≡ size.Bytes x)) → (j n : ℕ) → slice_get new j ≡ Some n → Begins t fs j n
-offset_more t fs ns k x new e l h b j n f =
-    let at : Begins t fs k x = subst (λ m. Begins t fs k m) (told_is b.0 x b.2) b.1 in
-    offset_by t fs ns k x j n l h at (pushed ns x j n (subst (λ (v : List ℕ). slice_get v j ≡ Some n) e f))
+    → Begins t fs k x → (j n : ℕ) → slice_get new j ≡ Some n → Begins t fs j n
+offset_more t fs ns k x new e l h at j n f = offset_by t fs ns k x j n l h at (pushed ns x j n (subst (λ (v : List ℕ). slice_get v j ≡ Some n) e f))
 
 -- one row more
 pub row_more : {A : Type 0} (IsRow : A → List ℕ → Type 0) (xs : List A) (rows : List (List ℕ)) (k : ℕ) (row : List ℕ) (new : List (List ℕ)) (y : A) → new ≡ rows ++ row ∷ [] → length rows ≡ k → slice_get xs k ≡ Some y → IsRow y row

@@ -3,12 +3,13 @@
 ghost use Rattle.std.specs.Prelude.{◌≡◌, ◌+◌, ℕ, true, length, replicate, IfOk, slice_get};
 ghost use Rattle.std.specs.Option.{option_copied};
 ghost use Rattle.rt_sizes.specs.Capped.{AreSizes};
-ghost use Rattle.rt_sizes.specs.Sizes.{Table};
+ghost use Rattle.rt_modes.specs.declared.mode.Mode.{out-Mode};
+ghost use Rattle.rt_sizes.specs.Sizes.{Table, End, begins};
 ghost use Rattle.rt_lower.specs.Layouts.{table_of};
 ghost use Rattle.rt_lower.specs.Layouts as layouts;
 
 use rt_modes::{Field, Mode, RecordDef};
-use rt_sizes::{Size, field_offset, record_sizes};
+use rt_sizes::{Size, data_size, record_sizes};
 use rt_tree::{Brick, BrickSort, ModuleParts};
 use rt_words::{List, Memory};
 use std::alloc::Global;
@@ -153,14 +154,37 @@ fn fields(
     Ok(rows)
 }
 
+/// Where fields begin: one walk over them.
 fn offsets(alloc: Global, sizes: &[Option<Size>], fields: &[Field]) -> Result<List<u16>, Memory>
     ensures { IfOk result (λ ns. (t : Table) → AreSizes t sizes.now → layouts.AreOffsets t fields.now ns) }
 {
     let mut made = List::new(alloc, fields.len())?;
-    for k in 0..fields.len() {
-        made.push(few(field_offset(sizes, fields, k))?)?;
+    let mut end = 0;
+    for (k, field) in fields.iter().enumerate() {
+        made.push(place(&field.mode, end)?)?;
+        end = end_behind(sizes, &fields[k..k + 1], &field.mode, end)?;
     }
     Ok(made)
+}
+
+/// Where a value of a mode begins that stands behind so many bytes.
+fn place(mode: &Mode, before: u16) -> Result<u16, Memory>
+    ensures { IfOk result (λ n. n ≡ begins (out-Mode mode.now) before) }
+{
+    few(Some(Size::Bytes(before).place(mode)))
+}
+
+/// Where a field ends, which is the only one of a slice, and stands behind so many bytes.
+fn end_behind(
+    sizes: &[Option<Size>],
+    alone: &[Field],
+    mode: &Mode,
+    before: u16,
+) -> Result<u16, Memory>
+    ensures { IfOk result (λ e. (t : Table) → AreSizes t sizes.now → (n : ℕ) × End t alone.now n × (e ≡ begins (out-Mode mode.now) before + n)) }
+{
+    let size = few(data_size(sizes, alone))?;
+    few(Some(Size::Bytes(size).behind(mode, Size::Bytes(before))))
 }
 
 /// A number of bytes up to the most that a record may have.
