@@ -4,7 +4,7 @@ use crate::calls::describe_top;
 use crate::first::{describe_module, describe_system};
 use crate::state::State;
 use crate::stores::{
-    describe_file, describe_held, describe_kept, describe_read, describe_store, describe_write,
+    describe_bytes, describe_file, describe_held, describe_kept, describe_read, describe_store, describe_write,
 };
 use crate::streams::{describe_sink, describe_source, describe_sure};
 use rt_words::{Memory, Text};
@@ -49,6 +49,7 @@ fn answer_files(
             out.push_all(b"no files")
         }
         "file" => describe_file(alloc, rest, &mut state.files, out),
+        "bytes" => describe_bytes(alloc, rest, &mut state.files, out),
         "store" => describe_store(alloc, rest, state, out),
         "top" => describe_top(alloc, rest, &state.files, out),
         _ => answer_store(alloc, kind, rest, state, out),

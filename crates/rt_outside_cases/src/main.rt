@@ -5,7 +5,7 @@
 //! case. `-` is no name, no word or no number. In a text `\n`, `\r` and `\t` are the control bytes, `\s` is a space, and
 //! `{255*;A}` stands for 255 times `;A`.
 //!
-//! - `files`: there are no files. `file A one`: a file more, of this name and text.
+//! - `files`: there are no files. `file A one`: a file more, of this name and text; `bytes A 01ff`: so of bytes in hexadecimal digits.
 //! - `store 200 : 3 5`: a store of these files with room for 200 bytes, whose third and fifth call fail.
 //!   `read A` and `write A two` are calls of it; `kept A` and `held` look at it.
 //! - `source AB : 2 6 : 7`: a source of this text whose second and sixth call fail, and seven calls.

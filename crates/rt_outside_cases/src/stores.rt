@@ -21,6 +21,20 @@ pub fn describe_file(
     }
 }
 
+/// Adds a file of bytes in hexadecimal digits.
+pub fn describe_bytes(
+    alloc: Global,
+    text: &str,
+    files: &mut Files,
+    out: &mut Text,
+) -> Result<(), Memory> {
+    let (name, digits) = named(text);
+    match hex::decode(alloc, digits) {
+        Ok(bytes) => add_file(alloc, name, List::from_vec(bytes), files, out),
+        Err(_) => out.push_all(b"no digits"),
+    }
+}
+
 fn add_file(
     alloc: Global,
     name: &str,
