@@ -7,7 +7,8 @@ use Rattle.rt_match.specs.declared.bindings.Bound.{Bound}
 use Rattle.rt_digraph.proofs.Lists.{no_element, some_is, get_there}
 use Rattle.rt_graph.specs.Calls.{IsCandidate, IsProcedure}
 use Rattle.rt_graph.specs.Numbers.{all_bricks, place, full_mode}
-use Rattle.rt_graph.specs.Classes.{mark_all, is_marked, text_of, texts_of, taken_texts, ClassMap, class_in, AreClasses, IsToldOf}
+use Rattle.rt_digraph.specs.Alone.{is_marked}
+use Rattle.rt_graph.specs.Classes.{mark_all, text_of, texts_of, taken_texts, ClassMap, class_in, AreClasses, IsToldOf}
 use Rattle.rt_graph.proofs.Procedures.{full_to, full_from, procedure_row}
 use Rattle.rt_graph.proofs.Marks.{none, marked_taken, taken_marked}
 

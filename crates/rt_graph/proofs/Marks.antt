@@ -9,7 +9,8 @@ use Rattle.rt_digraph.proofs.Lists.{no_element, some_is, get_there, set_same, se
 use Rattle.rt_digraph.proofs.Moves.{same_or_not}
 use Rattle.rt_graph.specs.Calls.{brick, numbered, stands_for, IsAlwaysTaken, IsTaken, named, always, IsProcedure}
 use Rattle.rt_graph.specs.Numbers.{all_bricks, place, number_of, and_then}
-use Rattle.rt_graph.specs.Classes.{mark, mark_taken, mark_modules, mark_all, true_or_not, is_marked}
+use Rattle.rt_digraph.specs.Alone.{true_or_not, is_marked}
+use Rattle.rt_graph.specs.Classes.{mark, mark_taken, mark_modules, mark_all}
 use Rattle.rt_graph.proofs.Rows.{row_at, supplied}
 use Rattle.rt_graph.proofs.Procedures.{number_to, number_from, procedure_row}
 

@@ -7,6 +7,7 @@ use Rattle.std.proofs.Common.{Bor}
 use Rattle.rt_tree_nodes.specs.declared.store.Proc.{Proc}
 use Rattle.rt_object.specs.declared.object.ObjectParts.{ObjectParts}
 use Rattle.rt_match.specs.declared.bindings.Bound.{Bound}
+use Rattle.rt_digraph.specs.Alone.{is_marked}
 use Rattle.rt_digraph.specs.Digraph.{listed}
 use Rattle.rt_graph.specs.Calls.{stands_for}
 use Rattle.rt_graph.specs.Numbers.{all_bricks, number_of, full_mode, and_then}
@@ -30,13 +31,6 @@ mark_modules objects of m (o ∷ os) marks = mark_modules objects of (suc m) os 
 -- and those that may be values always
 abbrev pub mark_all : List ObjectParts → List (List Bound) → List Bool → List Bool
 mark_all objects of marks = mark_modules objects of 1 objects (mark (Some 10) (mark (Some 2) (mark (Some 1) marks)))
-
-abbrev pub true_or_not : Option Bool → Bool
-true_or_not None = false
-true_or_not (Some b) = b
-
-abbrev pub is_marked : List Bool → ℕ → Bool
-is_marked marks n = true_or_not (slice_get marks n)
 
 -- the full mode of a procedure that may be a value
 abbrev pub text_of : List ObjectParts → List Bool → ℕ → Proc → Option (List ℕ)

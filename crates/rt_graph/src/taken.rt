@@ -1,6 +1,7 @@
 //! The procedures that may be values.
 
 ghost use Rattle.std.specs.Prelude.{◌≡◌, ◌≤◌, ◌+◌, ◌<◌, suc, false, length, replicate, drop, IfOk};
+ghost use Rattle.rt_digraph.specs.Alone.{is_marked};
 ghost use Rattle.rt_graph.specs.Calls as calls;
 ghost use Rattle.rt_graph.specs.Classes as spec;
 ghost use Rattle.rt_graph.specs.Numbers as numbers;
@@ -106,7 +107,7 @@ fn mark(marks: &mut [bool], number: Option<usize>)
 }
 
 fn is_marked(marks: &[bool], number: usize) -> bool
-    ensures { result ≡ spec.is_marked marks.now number }
+    ensures { result ≡ is_marked marks.now number }
 {
     match marks.get(number) {
         Some(mark) => *mark,
