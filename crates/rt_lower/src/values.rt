@@ -299,7 +299,7 @@ fn into(field: u16, offset: u16) -> Ins
     Ins::Into { field, offset }
 }
 
-/// Appends the code of arguments, and tells how many they are.
+/// Appends the code of arguments, and tells how many they are. It doesn't recurse along them.
 #[cycle(values)]
 fn terms(
     alloc: Global,
@@ -310,14 +310,14 @@ fn terms(
     ensures code { OnOk result (code.new ≡ code.old ++ whole (values.values layouts.now (n.terms arguments.now))) }
     ensures count { IfOk result (λ k. k ≡ how_many (n.terms arguments.now)) }
 {
-    match arguments {
-        TermsNode::NoTerm => Ok(0),
-        TermsNode::MoreTerms(first, behind) => {
-            term(alloc, layouts, code, first)?;
-            let count = terms(alloc, layouts, code, behind)?;
-            sum(1, count)
-        }
+    let mut count = 0;
+    let mut rest = arguments;
+    while let TermsNode::MoreTerms(first, behind) = rest {
+        term(alloc, layouts, code, first)?;
+        count = sum(count, 1)?;
+        rest = behind;
     }
+    Ok(count)
 }
 
 /// Appends the code of a call that stands alone.
