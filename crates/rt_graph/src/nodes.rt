@@ -9,11 +9,10 @@ ghost use Rattle.rt_graph.specs.Nodes as spec;
 ghost use Rattle.rt_graph.specs.Nodes.{IsTable};
 
 use crate::places::{body_of, object_at};
-use crate::table::Table;
+use crate::table::{Linked, Table};
 use crate::taken::number_taken;
-use rt_match::Bindings;
 use rt_modes::{Mode, ModeTable, write_mode};
-use rt_object::{Call, Object, ObjectParts, ProcContent, Target};
+use rt_object::{Call, ObjectParts, ProcContent, Target};
 use rt_tree_nodes::Proc;
 use rt_words::{List, Memory, Text};
 use std::alloc::Global;
@@ -24,20 +23,24 @@ const INT_TAKEN: &str = "PROC(INT)";
 /// The node that is called at a point of a procedure of a module, where one is.
 pub fn callee(
     alloc: Global,
-    objects: &[Object],
-    bindings: &Bindings,
-    table: &Table<'_>,
+    linked: Linked<'_, '_>,
     module: u16,
     object: &ObjectParts,
     target: &Target,
 ) -> Result<Option<usize>, Memory>
-    requires { IsTable objects.now bindings.now.of table.now }
-    ensures { IfOk result (λ node. node ≡ spec.callee objects.now bindings.now.of table.now «module» object.now target.now) }
+    requires { IsTable linked.objects.now linked.bindings.now.of linked.table.now }
+    ensures { IfOk result (λ node. node ≡ spec.callee linked.entry.objects.now linked.entry.bindings.now.of linked.entry.table.now «module» object.now target.now) }
 {
     match target {
-        Target::Brick(brick) => Ok(number_taken(objects, bindings, &table.row, module, *brick)),
-        Target::Mode(mode) => mode_node(alloc, table, &object.records, mode),
-        Target::Error => Ok(error_node(table)),
+        Target::Brick(brick) => Ok(number_taken(
+            linked.objects,
+            linked.bindings,
+            &linked.table.row,
+            module,
+            *brick,
+        )),
+        Target::Mode(mode) => mode_node(alloc, linked.table, &object.records, mode),
+        Target::Error => Ok(error_node(linked.table)),
     }
 }
 
@@ -76,27 +79,17 @@ pub fn error_node(table: &Table<'_>) -> Option<usize>
 /// The nodes that some calls of a procedure of a module lead to.
 fn callees(
     alloc: Global,
-    objects: &[Object],
-    bindings: &Bindings,
-    table: &Table<'_>,
+    linked: Linked<'_, '_>,
     module: u16,
     object: &ObjectParts,
     calls: &[Call],
 ) -> Result<List<usize>, Memory>
-    requires { IsTable objects.now bindings.now.of table.now }
-    ensures { IfOk result (λ nodes. nodes ≡ spec.callees objects.now bindings.now.of table.now «module» object.now calls.now) }
+    requires { IsTable linked.objects.now linked.bindings.now.of linked.table.now }
+    ensures { IfOk result (λ nodes. nodes ≡ spec.callees linked.entry.objects.now linked.entry.bindings.now.of linked.entry.table.now «module» object.now calls.now) }
 {
     let mut nodes = List::new(alloc, 0)?;
     for call in calls {
-        let node = callee(
-            alloc,
-            objects,
-            bindings,
-            table,
-            module,
-            object,
-            &call.target,
-        )?;
+        let node = callee(alloc, linked, module, object, &call.target)?;
         push_some(&mut nodes, node)?;
     }
     Ok(nodes)
@@ -119,30 +112,16 @@ pub fn meets_errors(number: u16) -> bool
 }
 
 /// The nodes that a brick calls.
-fn nodes_of(
-    alloc: Global,
-    objects: &[Object],
-    bindings: &Bindings,
-    table: &Table<'_>,
-    of: Proc,
-) -> Result<List<usize>, Memory>
-    requires { IsTable objects.now bindings.now.of table.now }
-    ensures { IfOk result (λ nodes. nodes ≡ spec.nodes_of objects.now bindings.now.of table.now of) }
+fn nodes_of(alloc: Global, linked: Linked<'_, '_>, of: Proc) -> Result<List<usize>, Memory>
+    requires { IsTable linked.objects.now linked.bindings.now.of linked.table.now }
+    ensures { IfOk result (λ nodes. nodes ≡ spec.nodes_of linked.entry.objects.now linked.entry.bindings.now.of linked.entry.table.now of) }
 {
     if of.module == 0 {
-        return supplied_nodes(alloc, table, of.brick);
+        return supplied_nodes(alloc, linked.table, of.brick);
     }
-    match object_at(objects, of.module) {
-        Some(object) => match body_of(objects, of) {
-            Some(body) => callees(
-                alloc,
-                objects,
-                bindings,
-                table,
-                of.module,
-                object,
-                body.calls.as_slice(),
-            ),
+    match object_at(linked.objects, of.module) {
+        Some(object) => match body_of(linked.objects, of) {
+            Some(body) => callees(alloc, linked, of.module, object, body.calls.as_slice()),
             None => List::new(alloc, 0),
         },
         None => List::new(alloc, 0),
@@ -161,35 +140,28 @@ fn supplied_nodes(alloc: Global, table: &Table<'_>, number: u16) -> Result<List<
 }
 
 /// The call graph.
-pub fn call_graph(
-    alloc: Global,
-    objects: &[Object],
-    bindings: &Bindings,
-    table: &Table<'_>,
-) -> Result<List<List<usize>>, Memory>
-    requires { IsTable objects.now bindings.now.of table.now }
-    ensures { IfOk result (λ graph. graph ≡ spec.call_graph objects.now bindings.now.of table.now) }
+pub fn call_graph(alloc: Global, linked: Linked<'_, '_>) -> Result<List<List<usize>>, Memory>
+    requires { IsTable linked.objects.now linked.bindings.now.of linked.table.now }
+    ensures { IfOk result (λ graph. graph ≡ spec.call_graph linked.entry.objects.now linked.entry.bindings.now.of linked.entry.table.now) }
 {
     let mut graph = List::new(alloc, 0)?;
-    push_bricks(alloc, objects, bindings, table, &mut graph)?;
-    push_none(alloc, &mut graph, table.classes.count)?;
+    push_bricks(alloc, linked, &mut graph)?;
+    push_none(alloc, &mut graph, linked.table.classes.count)?;
     let mut graph = graph.into_vec();
-    group(table, &mut graph)?;
+    group(linked.table, &mut graph)?;
     Ok(List::from_vec(graph))
 }
 
 fn push_bricks(
     alloc: Global,
-    objects: &[Object],
-    bindings: &Bindings,
-    table: &Table<'_>,
+    linked: Linked<'_, '_>,
     graph: &mut List<List<usize>>,
 ) -> Result<(), Memory>
-    requires { IsTable objects.now bindings.now.of table.now }
-    ensures { OnOk result (graph.new ≡ graph.old ++ map (spec.nodes_of objects.now bindings.now.of table.now) table.now.row.bricks) }
+    requires { IsTable linked.objects.now linked.bindings.now.of linked.table.now }
+    ensures { OnOk result (graph.new ≡ graph.old ++ map (spec.nodes_of linked.entry.objects.now linked.entry.bindings.now.of linked.entry.table.now) linked.entry.table.now.row.bricks) }
 {
-    for of in table.row.bricks.as_slice() {
-        let nodes = nodes_of(alloc, objects, bindings, table, *of)?;
+    for of in linked.table.row.bricks.as_slice() {
+        let nodes = nodes_of(alloc, linked, *of)?;
         graph.push(nodes)?;
     }
     Ok(())

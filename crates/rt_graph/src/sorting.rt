@@ -12,7 +12,7 @@ use crate::fault::GraphFault;
 use crate::nodes::{call_graph, push_some};
 use crate::reached::Order;
 use crate::row::Row;
-use crate::table::Table;
+use crate::table::{Linked, Table};
 use crate::taken::taken_texts;
 use rt_digraph::{Sorted, sort};
 use rt_match::Bindings;
@@ -55,7 +55,12 @@ fn order_by(
 {
     let table = Table::of(alloc, objects, bindings, row, texts)?;
     let numbers = root_numbers(alloc, objects, &table.row, roots)?;
-    let sorted = sorted_nodes(alloc, objects, bindings, &table, numbers.as_slice())?;
+    let linked = Linked {
+        objects,
+        bindings,
+        table: &table,
+    };
+    let sorted = sorted_nodes(alloc, linked, numbers.as_slice())?;
     in_order(alloc, table.row.bricks.as_slice(), &sorted)
 }
 
@@ -77,17 +82,11 @@ fn root_numbers(
     Ok(numbers)
 }
 
-fn sorted_nodes(
-    alloc: Global,
-    objects: &[Object],
-    bindings: &Bindings,
-    table: &Table<'_>,
-    numbers: &[usize],
-) -> Result<Sorted, Memory>
-    requires { IsTable objects.now bindings.now.of table.now }
-    ensures { IfOk result (IsSorted (spec.call_graph objects.now bindings.now.of table.now) numbers.now) }
+fn sorted_nodes(alloc: Global, linked: Linked<'_, '_>, numbers: &[usize]) -> Result<Sorted, Memory>
+    requires { IsTable linked.objects.now linked.bindings.now.of linked.table.now }
+    ensures { IfOk result (IsSorted (spec.call_graph linked.entry.objects.now linked.entry.bindings.now.of linked.entry.table.now) numbers.now) }
 {
-    let graph = call_graph(alloc, objects, bindings, table)?;
+    let graph = call_graph(alloc, linked)?;
     sort(alloc, graph.as_slice(), numbers)
 }
 

@@ -14,7 +14,7 @@ use crate::nodes::{callee, error_node, meets_errors};
 use crate::places::{body_of, object_at};
 use crate::reached::Order;
 use crate::row::Row;
-use crate::table::Table;
+use crate::table::{Linked, Table};
 use crate::taken::taken_texts;
 use rt_match::Bindings;
 use rt_object::{Call, Object, ObjectParts, ProcContent, Target};
@@ -64,14 +64,12 @@ fn needs_by(
         of: zeros(alloc, table.row.bricks.len())?,
         greatest: zeros(alloc, table.classes.count)?,
     };
-    needs_of(
-        alloc,
+    let linked = Linked {
         objects,
         bindings,
-        &table,
-        &mut found,
-        order.procs.as_slice(),
-    )
+        table: &table,
+    };
+    needs_of(alloc, linked, &mut found, order.procs.as_slice())
 }
 
 fn zeros(alloc: Global, count: usize) -> Result<List<u32>, Memory>
@@ -83,44 +81,34 @@ fn zeros(alloc: Global, count: usize) -> Result<List<u32>, Memory>
 /// The needs of procedures of which each stands behind those that it may call.
 fn needs_of(
     alloc: Global,
-    objects: &[Object],
-    bindings: &Bindings,
-    table: &Table<'_>,
+    linked: Linked<'_, '_>,
     found: &mut Found,
     procs: &[Proc],
 ) -> Result<List<u32>, Memory>
-    requires { IsTable objects.now bindings.now.of table.now }
-    ensures { IfOk result (λ needs. needs ≡ spec.needs_of objects.now bindings.now.of table.now procs.now found.old) }
+    requires { IsTable linked.objects.now linked.bindings.now.of linked.table.now }
+    ensures { IfOk result (λ needs. needs ≡ spec.needs_of linked.entry.objects.now linked.entry.bindings.now.of linked.entry.table.now procs.now found.old) }
 {
     let mut needs = List::new(alloc, procs.len())?;
     for of in procs {
-        let need = need_of(alloc, objects, bindings, table, found, *of)?;
-        found.note(table, table.row.number(objects, *of), need);
+        let need = need_of(alloc, linked, found, *of)?;
+        let number = linked.table.row.number(linked.objects, *of);
+        found.note(linked.table, number, need);
         needs.push(need)?;
     }
     Ok(needs)
 }
 
 /// What a procedure needs, where all that it may call is found.
-fn need_of(
-    alloc: Global,
-    objects: &[Object],
-    bindings: &Bindings,
-    table: &Table<'_>,
-    found: &Found,
-    of: Proc,
-) -> Result<u32, Memory>
-    requires { IsTable objects.now bindings.now.of table.now }
-    ensures { IfOk result (λ need. need ≡ spec.need_of objects.now bindings.now.of table.now found.now of) }
+fn need_of(alloc: Global, linked: Linked<'_, '_>, found: &Found, of: Proc) -> Result<u32, Memory>
+    requires { IsTable linked.objects.now linked.bindings.now.of linked.table.now }
+    ensures { IfOk result (λ need. need ≡ spec.need_of linked.entry.objects.now linked.entry.bindings.now.of linked.entry.table.now found.now of) }
 {
     if of.module == 0 {
-        return Ok(supplied_need(table, found, of.brick));
+        return Ok(supplied_need(linked.table, found, of.brick));
     }
-    match object_at(objects, of.module) {
-        Some(object) => match body_of(objects, of) {
-            Some(body) => body_need(
-                alloc, objects, bindings, table, found, of.module, object, body,
-            ),
+    match object_at(linked.objects, of.module) {
+        Some(object) => match body_of(linked.objects, of) {
+            Some(body) => body_need(alloc, linked, found, of.module, object, body),
             None => Ok(0),
         },
         None => Ok(0),
@@ -140,29 +128,19 @@ fn supplied_need(table: &Table<'_>, found: &Found, number: u16) -> u32
 
 fn body_need(
     alloc: Global,
-    objects: &[Object],
-    bindings: &Bindings,
-    table: &Table<'_>,
+    linked: Linked<'_, '_>,
     found: &Found,
     module: u16,
     object: &ObjectParts,
     body: &ProcContent,
 ) -> Result<u32, Memory>
-    requires { IsTable objects.now bindings.now.of table.now }
-    ensures { IfOk result (λ need. need ≡ spec.plus (2 + body.now.locals) (spec.deepest objects.now bindings.now.of table.now found.now «module» object.now body.now.calls body.now.deep)) }
+    requires { IsTable linked.objects.now linked.bindings.now.of linked.table.now }
+    ensures { IfOk result (λ need. need ≡ spec.plus (2 + body.now.locals) (spec.deepest linked.entry.objects.now linked.entry.bindings.now.of linked.entry.table.now found.now «module» object.now body.now.calls body.now.deep)) }
 {
     let mut deepest = u32::from(body.deep);
     for call in body.calls.as_slice() {
-        let node = callee(
-            alloc,
-            objects,
-            bindings,
-            table,
-            module,
-            object,
-            &call.target,
-        )?;
-        deepest = greater(deepest, point_need(call, found.at(table, node)));
+        let node = callee(alloc, linked, module, object, &call.target)?;
+        deepest = greater(deepest, point_need(call, found.at(linked.table, node)));
     }
     Ok((2 + u32::from(body.locals)).saturating_add(deepest))
 }

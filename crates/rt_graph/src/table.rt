@@ -20,6 +20,14 @@ pub struct Table<'t> {
     pub classes: Classes<'t>,
 }
 
+/// Objects, to what their bricks are bound, and their table.
+#[derive(Clone, Copy)]
+pub struct Linked<'l, 't> {
+    pub objects: &'l [Object],
+    pub bindings: &'l Bindings,
+    pub table: &'l Table<'t>,
+}
+
 impl<'t> Table<'t> {
     /// The table of a system, whose row and texts these are.
     pub fn of(
