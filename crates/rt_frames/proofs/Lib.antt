@@ -1,8 +1,8 @@
 mod Framed
-mod Fused
+pub mod Fused
 mod Gathered
 mod Passed
 mod Reached
 mod Spread
-mod Under
-mod Within
+pub mod Under
+pub mod Within

@@ -87,7 +87,7 @@ abbrev pub fit : Valued → Bool
 fit v = is_there v.mode || is_there v.call
 
 -- what is found suits how it is come to
-abbrev spot_suits : Found → Spot → Bool
+abbrev pub spot_suits : Found → Spot → Bool
 spot_suits (Variable m) (OnLocal i) = true
 spot_suits Loop (OnLocal i) = true
 spot_suits (Shared m) (OnPath q) = true

@@ -24,7 +24,7 @@ use Rattle.rt_frames.specs.Small.{IsSmall, IsSmallPoint, NumbersAreSmall}
 use Rattle.rt_frames.proofs.Spread.{body_under}
 use Rattle.rt_frames.proofs.Under.{AllUnder, there_with, there_passes}
 
-tested_at : {A : Type 0} (test : A → Bool) (xs : List A) (k : ℕ) (x : A) → list_all test xs ≡ true → slice_get xs k ≡ Some x → test x ≡ true
+pub tested_at : {A : Type 0} (test : A → Bool) (xs : List A) (k : ℕ) (x : A) → list_all test xs ≡ true → slice_get xs k ≡ Some x → test x ≡ true
 tested_at test [] k x h e = absurd cc
 tested_at test (y ∷ ys) zero x h e = let same : y ≡ x = cc in rw (sym same) (and_parts (test y) (list_all test ys) h).0
 tested_at test (y ∷ ys) (suc k) x h e = tested_at test ys k x (and_parts (test y) (list_all test ys) h).1 e
