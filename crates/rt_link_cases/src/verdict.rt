@@ -2,7 +2,7 @@
 
 ghost use Rattle.std.specs.Prelude.{◌≤◌, length};
 
-use itoa::Buffer;
+use crate::told::tell_number;
 use rt_match::{Bound, MatchFault, match_all};
 use rt_object::Object;
 use rt_words::{Memory, Text};
@@ -36,23 +36,19 @@ fn tell_bound(bound: Bound, out: &mut Text) -> Result<(), Memory> {
     match bound {
         Bound::Own => out.push_all(b"own"),
         Bound::Brick(module, brick) => {
-            tell_number(module, out)?;
+            tell_number(u32::from(module), out)?;
             out.push_all(b".")?;
-            tell_number(brick, out)
+            tell_number(u32::from(brick), out)
         }
         Bound::Supplied(number) => {
             out.push_all(b"supplied ")?;
-            tell_number(u16::from(number), out)
+            tell_number(u32::from(number), out)
         }
     }
 }
 
-fn tell_number(number: u16, out: &mut Text) -> Result<(), Memory> {
-    let mut digits = Buffer::new();
-    out.push_all(digits.format(number).as_bytes())
-}
-
-fn tell_fault(fault: &MatchFault, out: &mut Text) -> Result<(), Memory> {
+/// Tells why objects don't match.
+pub fn tell_fault(fault: &MatchFault, out: &mut Text) -> Result<(), Memory> {
     match fault {
         MatchFault::Memory => Err(Memory),
         MatchFault::Duplicate { brick } => {
@@ -79,7 +75,7 @@ fn tell_fault(fault: &MatchFault, out: &mut Text) -> Result<(), Memory> {
 
 fn tell_brick(what: &str, module: u16, brick: &[u8], out: &mut Text) -> Result<(), Memory> {
     out.push_all(what.as_bytes())?;
-    tell_number(module, out)?;
+    tell_number(u32::from(module), out)?;
     out.push_all(b" ")?;
     out.push_all(brick)
 }
