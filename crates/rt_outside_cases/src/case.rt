@@ -4,7 +4,8 @@ use crate::calls::describe_top;
 use crate::first::{describe_module, describe_system};
 use crate::state::State;
 use crate::stores::{
-    describe_bytes, describe_file, describe_held, describe_kept, describe_read, describe_store, describe_write,
+    describe_bytes, describe_file, describe_held, describe_kept, describe_read, describe_store,
+    describe_write,
 };
 use crate::streams::{describe_sink, describe_source, describe_sure};
 use rt_words::{Memory, Text};
