@@ -7,10 +7,10 @@ use Rattle.std.proofs.Math.Seq.{get_or-append_right}
 use Rattle.std.proofs.lemmas.List.{get_or_append_left, get_or_past, get_or-set_same, get_or-set_other, length-replicate}
 use Rattle.std.specs.Prelude.{slice_set, replicate}
 use Rattle.rt_tree_nodes.specs.Tree.{Cond, Is, Both, Either, Stmt, Keep, Clear, Put, Run, Toss, Goto, GiveBack, Back, Switch, Inner, If, For, To, While, Recover, Seq, Done, Then, Mark}
-use Rattle.rt_work.specs.Task.{or_else}
+use Rattle.rt_work_state.specs.Items.{or_else}
 use Rattle.rt_lower.specs.declared.draft.Draft.{Draft}
 use Rattle.rt_lower.specs.declared.draft.Piece.TheVariants as piece
-use Rattle.rt_lower.specs.declared.layouts.Layouts.{Layouts}
+use Rattle.rt_layouts.specs.declared.layouts.Layouts.{Layouts}
 use Rattle.rt_lower.specs.Values.{value}
 use Rattle.rt_lower.specs.Code as code
 use Rattle.rt_lower.specs.Code.{nowhere, for_head, extent, reach, span, place, place_inside}

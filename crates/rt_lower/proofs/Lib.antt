@@ -4,6 +4,5 @@ pub mod Drafted
 pub mod Labelled
 pub mod Whole
 pub mod Sizes
-pub mod Listing
+pub mod Growing
 pub mod Alone
-pub mod Offsets

@@ -8,13 +8,13 @@ use Rattle.rt_tree_nodes.specs.declared.brick.ModuleParts.{ModuleParts}
 use Rattle.rt_tree_nodes.specs.declared.brick.ProcBody.{ProcBody}
 use Rattle.rt_tree_nodes.specs.Tree.{Term, Cond, Is, Both, Either, Stmt, Keep, Clear, Put, Run, Toss, Goto, GiveBack, Back, Switch, Inner, If, For, To, While, Recover, Seq, Done, Then, Mark}
 use Rattle.rt_tree.specs.Within.{tree_of, parameters_of}
-use Rattle.rt_work.specs.Task.{or_else}
+use Rattle.rt_work_state.specs.Items.{or_else}
 use Rattle.rt_icode.specs.declared.ins.Ins.{Ins}
 use Rattle.rt_icode.specs.declared.ins.Ins.TheVariants as ins
 use Rattle.rt_icode.specs.declared.procedure.IProc.{IProc}
 use Rattle.rt_icode.specs.declared.procedure.IModule.{IModule}
-use Rattle.rt_lower.specs.declared.layouts.Layouts.{Layouts}
-use Rattle.rt_lower.specs.Layouts.{AreLayouts, number}
+use Rattle.rt_layouts.specs.declared.layouts.Layouts.{Layouts}
+use Rattle.rt_layouts.specs.Layouts.{AreLayouts, number}
 use Rattle.rt_lower.specs.Values.{site_of, wanted, written, width_of, value, address, alone}
 
 -- where each label leads: the number of an instruction

@@ -1,15 +1,15 @@
 -- The code as it is written: jumps forward lead to places, and GOTO and SWITCH to labels, whose numbers are known only at the end.
 use Rattle.std.specs.Prelude.{ℕ, ◌+◌, ◌-◌, Bool, true, false, if◌then◌else◌, List, [], ◌∷◌, ◌++◌, length, map, replicate, Option, Some, None, option_map, slice_get, slice_set}
 use Rattle.rt_tree_nodes.specs.Tree.{Term, Cond, Is, Both, Either, Stmt, Keep, Clear, Put, Run, Toss, Goto, GiveBack, Back, Switch, Inner, If, For, To, While, Seq, Done, Then, Mark}
-use Rattle.rt_work.specs.Nodes as n
+use Rattle.rt_work_state.specs.Nodes as n
 use Rattle.rt_icode.specs.declared.ins.Ins.{Ins}
 use Rattle.rt_icode.specs.declared.ins.Ins.TheVariants as ins
 use Rattle.rt_lower.specs.declared.draft.Draft.{Draft}
 use Rattle.rt_lower.specs.declared.draft.Piece.{Piece}
 use Rattle.rt_lower.specs.declared.draft.Piece.TheVariants as piece
-use Rattle.rt_lower.specs.declared.layouts.Layouts.{Layouts}
+use Rattle.rt_layouts.specs.declared.layouts.Layouts.{Layouts}
 use Rattle.rt_lower.specs.declared.statements.Parts.{Parts}
-use Rattle.rt_lower.specs.Layouts.{number}
+use Rattle.rt_layouts.specs.Layouts.{number}
 use Rattle.rt_lower.specs.Values.{site_of, wanted, written, width_of, value, address, alone}
 use Rattle.rt_lower.specs.Code.{Leads, for_head}
 

@@ -1,4 +1,3 @@
-pub mod Layouts
 pub mod Values
 pub mod Code
 pub mod Drafts

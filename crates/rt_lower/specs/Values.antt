@@ -7,7 +7,7 @@ use Rattle.rt_tree_nodes.specs.declared.operators.Op2.{Op2}
 use Rattle.rt_tree_nodes.specs.declared.operators.Op2.TheVariants as two
 use Rattle.rt_tree_nodes.specs.Tree.{Term, Num, Str, Name, Own, Get, Ref, RefRow, Count, CountRow, One, Two, Over, Apply, ApplyBy, Path, ItemAt, Svc, FieldOf, Elem, ElemRow, Past, Terms, NoTerm, MoreTerms}
 use Rattle.rt_tree_nodes.specs.Typing.{is_byte}
-use Rattle.rt_work.specs.Task.{how_many}
+use Rattle.rt_work_state.specs.Items.{how_many}
 use Rattle.rt_icode.specs.declared.ins.Alter.TheVariants as alter
 use Rattle.rt_icode.specs.declared.ins.Division.{Division}
 use Rattle.rt_icode.specs.declared.ins.Division.TheVariants as division
@@ -19,10 +19,10 @@ use Rattle.rt_icode.specs.declared.ins.Width.{Width}
 use Rattle.rt_icode.specs.declared.ins.Width.TheVariants as width
 use Rattle.rt_icode.specs.declared.ins.Ins.{Ins}
 use Rattle.rt_icode.specs.declared.ins.Ins.TheVariants as ins
-use Rattle.rt_lower.specs.declared.layouts.Layouts.{Layouts}
+use Rattle.rt_layouts.specs.declared.layouts.Layouts.{Layouts}
 use Rattle.rt_lower.specs.declared.site.Site.{Site}
 use Rattle.rt_lower.specs.declared.site.Site.TheVariants as site
-use Rattle.rt_lower.specs.Layouts.{item_offset, field_offset, bytes}
+use Rattle.rt_layouts.specs.Layouts.{item_offset, field_offset, bytes}
 
 -- ---- what a place is
 

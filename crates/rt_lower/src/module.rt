@@ -2,19 +2,19 @@
 
 ghost use Rattle.std.specs.Prelude.{◌≡◌, ◌-◌, ◌++◌, ◌∷◌, [], false, length, IfOk, OnOk};
 ghost use Rattle.rt_tree.specs.Within.{parameters_of, tree_of};
-ghost use Rattle.rt_work.specs.Nodes as n;
+ghost use Rattle.rt_work_state.specs.Nodes as n;
 ghost use Rattle.rt_lower.specs.Code as code;
 ghost use Rattle.rt_lower.specs.Drafts as drafts;
-ghost use Rattle.rt_lower.specs.Layouts.{AreLayouts};
+ghost use Rattle.rt_layouts.specs.Layouts.{AreLayouts};
 
 use crate::draft::Draft;
-use crate::layouts::Layouts;
+use rt_layouts::Layouts;
 use rt_icode::{IModule, IProc, Ins};
 use rt_modes::Mode;
 use rt_resolve::body_tree;
 use rt_tree::{Brick, BrickSort, ProcBody, TypedModule};
 use rt_words::{List, Memory, Name};
-use rt_work::SeqNode;
+use rt_work_state::SeqNode;
 use std::alloc::Global;
 
 /// The intermediate code of a module: of each own or ENT procedure, in the order of declaration, its name, its items and its code.
@@ -28,10 +28,15 @@ pub fn lower(alloc: Global, module: &TypedModule) -> Result<IModule, Memory>
     ensures { IfOk result (λ m. code.IsIntermediate module.now m) }
 {
     let layouts = Layouts::of(alloc, module.parts())?;
-    procedures(alloc, &layouts, module)
+    lower_by(alloc, &layouts, module)
 }
 
-fn procedures(alloc: Global, layouts: &Layouts, module: &TypedModule) -> Result<IModule, Memory>
+/// The same, by how the data of the module lie.
+///
+/// # Errors
+///
+/// Want of memory; also where a number has more bits than its instruction holds.
+pub fn lower_by(alloc: Global, layouts: &Layouts, module: &TypedModule) -> Result<IModule, Memory>
     ensures { IfOk result (λ m. m ≡ code.intermediate layouts.now module.now) }
 {
     let mut procs = List::new(alloc, 0)?;

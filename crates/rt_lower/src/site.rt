@@ -1,15 +1,15 @@
 //! What places are, and what is done with them.
 
-ghost use Rattle.std.specs.Prelude.{◌≡◌, ◌∷◌, [], IfOk};
+ghost use Rattle.std.specs.Prelude.{◌≡◌, ◌+◌, ◌∷◌, [], IfOk};
 ghost use Rattle.rt_icode.specs.declared.ins.Fixed.{Fixed};
 ghost use Rattle.rt_lower.specs.Values as values;
-ghost use Rattle.rt_work.specs.Nodes as n;
+ghost use Rattle.rt_work_state.specs.Nodes as n;
 
-use crate::layouts::{Layouts, sum};
 use rt_icode::{Fixed, Ins, OwnItem, Width};
+use rt_layouts::Layouts;
 use rt_modes::Mode;
 use rt_words::{List, Memory};
-use rt_work::PathNode;
+use rt_work_state::PathNode;
 use std::alloc::Global;
 
 /// What a place is.
@@ -21,6 +21,16 @@ pub enum Site {
     Fixed(Fixed),
     /// Another: its address is put on the stack.
     Stacked,
+}
+
+/// A sum of bytes; one of more than 16 bits, to which no place comes, is answered as want of memory.
+pub(crate) fn sum(a: u16, b: u16) -> Result<u16, Memory>
+    ensures { IfOk result (λ s. s ≡ a + b) }
+{
+    match a.checked_add(b) {
+        Some(sum) => Ok(sum),
+        None => Err(Memory),
+    }
 }
 
 /// How much is read or written at a place of a mode.

@@ -1,17 +1,17 @@
 //! The code of conditions and statements.
 
 ghost use Rattle.std.specs.Prelude.{◌≡◌, ◌++◌, ◌∷◌, [], map, length, if◌then◌else◌, OnOk};
-ghost use Rattle.rt_work.specs.Nodes as n;
+ghost use Rattle.rt_work_state.specs.Nodes as n;
 ghost use Rattle.rt_lower.specs.Drafts as drafts;
 ghost use Rattle.rt_lower.specs.declared.draft.Piece.TheVariants as piece;
 
 use crate::draft::{Draft, Piece};
 use crate::laid::number;
-use crate::layouts::Layouts;
+use rt_layouts::Layouts;
 use crate::values::{alone, assignment, both, followed, for_head, term};
 use rt_icode::Ins;
 use rt_words::{List, Memory};
-use rt_work::{CondNode, LabelsNode, SeqNode, StmtNode, TermNode};
+use rt_work_state::{CondNode, LabelsNode, SeqNode, StmtNode, TermNode};
 use std::alloc::Global;
 
 /// The parts of an IF.

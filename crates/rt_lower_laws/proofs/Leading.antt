@@ -1,12 +1,12 @@
 -- Ways end in their procedure.
 use Rattle.std.proofs.Common.{◌≡◌, ℕ, ◌+◌, ◌<◌, ◌≤◌, ◌==◌, Bool, true, false, if◌then◌else◌, List, [], ◌∷◌, ◌++◌, length, Option, Some, None, refl, sym, ap, ◌∙◌, subst, arith, length-append}
 use Rattle.rt_tree_nodes.specs.Tree.{Term, Cond, Is, Both, Either, Stmt, Keep, Clear, Put, Run, Toss, Goto, GiveBack, Back, Switch, Inner, If, For, To, While, Recover, Seq, Done, Then, Mark}
-use Rattle.rt_work.specs.Task.{or_else}
+use Rattle.rt_work_state.specs.Items.{or_else}
 use Rattle.rt_icode.specs.declared.ins.Ins.{Ins}
 use Rattle.rt_icode.specs.declared.ins.Ins.TheVariants as ins
 use Rattle.rt_icode.specs.Within.{leads, is_enter}
-use Rattle.rt_lower.specs.declared.layouts.Layouts.{Layouts}
-use Rattle.rt_lower.specs.Layouts.{number}
+use Rattle.rt_layouts.specs.declared.layouts.Layouts.{Layouts}
+use Rattle.rt_layouts.specs.Layouts.{number}
 use Rattle.rt_lower.specs.Values.{value, width_of}
 use Rattle.rt_lower.specs.Code.{Leads, nowhere, cases, for_head, condition, statement, sequence, extent, reach, span, place, place_inside}
 use Rattle.rt_lower.proofs.Lengths.{condition_length, sequence_length}

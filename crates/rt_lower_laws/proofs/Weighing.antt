@@ -8,16 +8,16 @@ use Rattle.rt_tree_nodes.specs.declared.operators.Op2.TheVariants as two
 use Rattle.rt_tree_nodes.specs.Tree.{Term, Num, Str, Name, Own, Get, Ref, RefRow, Count, CountRow, One, Two, Over, Apply, ApplyBy, Path, ItemAt, Svc, FieldOf, Elem, ElemRow, Past, Terms, NoTerm, MoreTerms, Cond, Is, Both, Either, Stmt, Keep, Clear, Put, Run, Toss, Goto, GiveBack, Back, Switch, Inner, If, For, To, While, Recover, Seq, Done, Then, Mark}
 use Rattle.rt_tree_nodes.specs.Typing.{is_byte}
 use Rattle.rt_tree.specs.Weights.{read_weight, operator_weight, term_weight, path_weight, terms_weight, condition_weight, statement_weight, sequence_weight}
-use Rattle.rt_work.specs.Task.{how_many}
+use Rattle.rt_work_state.specs.Items.{how_many}
 use Rattle.rt_icode.specs.declared.ins.Width.{Width}
 use Rattle.rt_icode.specs.declared.ins.Width.TheVariants as width
 use Rattle.rt_icode.specs.declared.ins.Ins.{Ins}
 use Rattle.rt_icode.specs.declared.ins.Ins.TheVariants as ins
 use Rattle.rt_icode.specs.Weights.{scale_words, words_of, unmarked_of}
-use Rattle.rt_lower.specs.declared.layouts.Layouts.{Layouts}
+use Rattle.rt_layouts.specs.declared.layouts.Layouts.{Layouts}
 use Rattle.rt_lower.specs.declared.site.Site.{Site}
 use Rattle.rt_lower.specs.declared.site.Site.TheVariants as site
-use Rattle.rt_lower.specs.Layouts.{field_offset, bytes}
+use Rattle.rt_layouts.specs.Layouts.{field_offset, bytes}
 use Rattle.rt_lower.specs.Values.{width_of, field_site, site_of, wanted, read, written, reached, row_reached, told, element, altered, merged, is_sure, divided, value, address, values, alone}
 use Rattle.rt_lower.specs.Code.{Leads, cases, for_head, condition, statement, sequence}
 use Rattle.rt_lower_laws.specs.Laws.{room, room_in}

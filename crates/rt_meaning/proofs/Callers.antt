@@ -3,7 +3,7 @@ use Rattle.std.proofs.Common.{◌≡◌, List, [], ◌∷◌, Option, Some, None
 use Rattle.rt_tree_nodes.specs.declared.store.Datum.{Datum}
 use Rattle.rt_meaning.specs.declared.system.Act.{Act as ActNode}
 use Rattle.rt_meaning.specs.declared.system.Task.{Task as TaskNode}
-use Rattle.rt_work.specs.Nodes.{items}
+use Rattle.rt_work_state.specs.Nodes.{items}
 use Rattle.rt_meaning.specs.Step.{Over, Doing, with_todo, on_values, returned}
 use Rattle.rt_meaning.specs.States.{act, acts, doing, task}
 

@@ -13,8 +13,8 @@ use Rattle.rt_rules.proofs.Rows.{if_by, length-with_row, length-arrives}
 use Rattle.rt_rules.proofs.Walks.{gives_from_goes, serve_goes}
 use Rattle.rt_rules.proofs.Raises.{service_raises}
 use Rattle.rt_rules.proofs.Delays.{length-counted_rows}
-use Rattle.rt_work.specs.declared.request.Request.{Request}
-use Rattle.rt_work.specs.declared.request.Request.TheVariants as request
+use Rattle.rt_work_state.specs.declared.request.Request.{Request}
+use Rattle.rt_work_state.specs.declared.request.Request.TheVariants as request
 use Rattle.rt_meaning.specs.Run.{by_rules, take as take_byte, serve as serve_request}
 use Rattle.rt_meaning.specs.Conditions.{condition_of, conditions_of}
 

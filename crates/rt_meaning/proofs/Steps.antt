@@ -4,8 +4,8 @@ use Rattle.rt_tree_nodes.specs.declared.store.Datum.{Datum}
 use Rattle.rt_tree_nodes.specs.declared.step.Step.{Step}
 use Rattle.rt_tree_nodes.specs.declared.step.Step.TheVariants as step
 use Rattle.rt_rules.specs.declared.service.Outcome.{Outcome}
-use Rattle.rt_work.specs.Stores.{Store, erp}
-use Rattle.rt_work.specs.Task.{Next, Reads, Writes, Calls, Returns, Jumps, Leaps, Asks, Recovers, Errors, Lacks}
+use Rattle.rt_work_state.specs.Stores.{Store, erp}
+use Rattle.rt_work_state.specs.Items.{Next, Reads, Writes, Calls, Returns, Jumps, Leaps, Asks, Recovers, Errors, Lacks}
 use Rattle.rt_resolve.specs.World.{World}
 use Rattle.rt_meaning.specs.Step.{Act, Task, Over, Failed, Doing, with_todo, act, next_of, request}
 use Rattle.rt_meaning.specs.Run.{Served, moved_by, serve}

@@ -4,10 +4,10 @@ use Rattle.rt_tree_nodes.specs.declared.store.Datum.{Datum}
 use Rattle.rt_rules.specs.declared.service.Outcome.{Outcome}
 use Rattle.rt_rules.specs.declared.service.Outcome.TheVariants.{Go, Waits, Error, Ends}
 use Rattle.rt_rules.specs.declared.service.Svc.TheVariants as svc
-use Rattle.rt_work.specs.declared.request.Request.{Request}
-use Rattle.rt_work.specs.declared.request.Request.TheVariants.{Rules}
-use Rattle.rt_work.specs.Stores.{Store}
-use Rattle.rt_work.specs.Task.{Item, Next, Reads, Writes, Calls, Returns, Jumps, Leaps, Asks, Recovers, Errors, Lacks}
+use Rattle.rt_work_state.specs.declared.request.Request.{Request}
+use Rattle.rt_work_state.specs.declared.request.Request.TheVariants.{Rules}
+use Rattle.rt_work_state.specs.Stores.{Store}
+use Rattle.rt_work_state.specs.Items.{Item, Next, Reads, Writes, Calls, Returns, Jumps, Leaps, Asks, Recovers, Errors, Lacks}
 use Rattle.rt_resolve.specs.World.{World}
 use Rattle.rt_meaning.specs.Step.{Act, Over, Failed, Doing, After, own_of, with_todo, entered, returned, served, act, next_of}
 use Rattle.rt_meaning.specs.Laws.{with_own, SameBeside, Touches, StepsTouchOne}

@@ -3,8 +3,8 @@ use Rattle.std.specs.Prelude.{◌<◌}
 use Rattle.rt_rules.specs.declared.service.Outcome.{Outcome}
 use Rattle.rt_rules.specs.declared.service.Outcome.TheVariants.{Go, Waits, Error, Ends}
 use Rattle.rt_rules.specs.declared.service.Svc.TheVariants as svc
-use Rattle.rt_work.specs.declared.request.Request.{Request}
-use Rattle.rt_work.specs.declared.request.Request.TheVariants.{Nothing, Takes, Puts, Rules}
+use Rattle.rt_work_state.specs.declared.request.Request.{Request}
+use Rattle.rt_work_state.specs.declared.request.Request.TheVariants.{Nothing, Takes, Puts, Rules}
 
 -- RRIN gives a byte, CLOCK and TASKNO a word; an error has a number that is a word; RRGEL and the end of a task end it.
 abbrev pub MayCome : Request → Outcome → Type 0

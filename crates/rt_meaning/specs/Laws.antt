@@ -5,7 +5,7 @@ use Rattle.rt_tree_nodes.specs.declared.store.Location.{Location}
 use Rattle.rt_tree_nodes.specs.declared.step.Step.TheVariants as step
 use Rattle.rt_rules.specs.declared.service.Outcome.{Outcome}
 use Rattle.rt_rules.specs.Roster.{Roster}
-use Rattle.rt_work.specs.Stores.{Store, read, write, write_own, erl_in}
+use Rattle.rt_work_state.specs.Stores.{Store, read, write, write_own, erl_in}
 use Rattle.rt_resolve.specs.World.{World}
 use Rattle.rt_meaning.specs.Run.{State, Moved, moved, task_at, stepped, tick}
 use Rattle.rt_meaning.specs.Step.{Task, Over, Failed, Doing, own_of, Touch, After, task_step}

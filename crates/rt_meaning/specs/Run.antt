@@ -5,10 +5,10 @@ use Rattle.rt_rules.specs.declared.service.Outcome.{Outcome}
 use Rattle.rt_rules.specs.declared.service.Outcome.TheVariants.{Go}
 use Rattle.rt_rules.specs.Rules as rules
 use Rattle.rt_rules.specs.Roster.{Roster}
-use Rattle.rt_work.specs.declared.request.Request.{Request}
-use Rattle.rt_work.specs.declared.request.Request.TheVariants.{Nothing, Takes, Puts, Rules}
+use Rattle.rt_work_state.specs.declared.request.Request.{Request}
+use Rattle.rt_work_state.specs.declared.request.Request.TheVariants.{Nothing, Takes, Puts, Rules}
 use Rattle.rt_tree_nodes.specs.declared.store.Proc.{Proc}
-use Rattle.rt_work.specs.Stores.{Store, first_own}
+use Rattle.rt_work_state.specs.Stores.{Store, first_own}
 use Rattle.rt_resolve.specs.World.{World}
 use Rattle.rt_meaning.specs.Step.{Task, Over, After, request, task_step, about_to}
 

@@ -4,20 +4,20 @@ use Rattle.rt_tree_nodes.specs.declared.store.Datum.{Datum}
 use Rattle.rt_rules.specs.declared.service.Svc.{Svc}
 use Rattle.rt_rules.specs.declared.service.Outcome.{Outcome}
 use Rattle.rt_rules.specs.declared.service.Outcome.TheVariants.{Go, Error}
-use Rattle.rt_work.specs.declared.request.Request.{Request}
-use Rattle.rt_work.specs.declared.request.Request.TheVariants.{Rules}
+use Rattle.rt_work_state.specs.declared.request.Request.{Request}
+use Rattle.rt_work_state.specs.declared.request.Request.TheVariants.{Rules}
 use Rattle.rt_tree_nodes.specs.declared.step.Step.TheVariants as step
-use Rattle.rt_work.specs.declared.scene.Scene.{Scene}
-use Rattle.rt_work.specs.declared.scene.Next.{Next as NextNode}
+use Rattle.rt_work_state.specs.declared.scene.Scene.{Scene}
+use Rattle.rt_work_state.specs.declared.scene.Next.{Next as NextNode}
 use Rattle.rt_resolve.specs.declared.code.ModuleCode.{ModuleCode}
 use Rattle.rt_meaning.specs.declared.system.Act.{Act as ActNode}
 use Rattle.rt_meaning.specs.declared.system.Ending.{Ending}
 use Rattle.rt_meaning.specs.declared.system.Ending.TheVariants as ending
 use Rattle.rt_meaning.specs.declared.system.Task.{Task as TaskNode}
 use Rattle.rt_resolve.specs.World.{world}
-use Rattle.rt_work.specs.Stores.{Store}
-use Rattle.rt_work.specs.Nodes as n
-use Rattle.rt_work.specs.Task.{Item, Next}
+use Rattle.rt_work_state.specs.Stores.{Store}
+use Rattle.rt_work_state.specs.Nodes as n
+use Rattle.rt_work_state.specs.Items.{Item, Next}
 use Rattle.rt_meaning.specs.declared.common.Common.{Common}
 use Rattle.rt_meaning.specs.Step.{Act, Task, Over, Failed, Doing, with_todo, asked, answers, served, act as step_of}
 use Rattle.rt_meaning.specs.Run.{Served, Moved, moved_by, serve}

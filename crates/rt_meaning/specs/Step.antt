@@ -12,12 +12,13 @@ use Rattle.rt_tree_nodes.specs.declared.step.Step.TheVariants as step
 use Rattle.rt_rules.specs.declared.service.Svc.TheVariants as svc
 use Rattle.rt_rules.specs.declared.service.Outcome.{Outcome}
 use Rattle.rt_rules.specs.declared.service.Outcome.TheVariants.{Go, Waits, Error, Ends}
-use Rattle.rt_work.specs.declared.request.Request.{Request}
-use Rattle.rt_work.specs.declared.request.Request.TheVariants.{Nothing, Takes, Rules}
+use Rattle.rt_work_state.specs.declared.request.Request.{Request}
+use Rattle.rt_work_state.specs.declared.request.Request.TheVariants.{Nothing, Takes, Rules}
 use Rattle.rt_resolve.specs.World.{Code, World}
 use Rattle.rt_tree_nodes.specs.declared.store.Location.{Location}
-use Rattle.rt_work.specs.Stores.{Store, read, write, write_own, erp, erl_in}
-use Rattle.rt_work.specs.Task.{Item, Do, Fetch, Report, GiveUp, Leave, Begin, Serve, Next, Reads, Writes, Calls, Returns, Jumps, Leaps, Asks, Recovers, Errors, Lacks, next, from_label}
+use Rattle.rt_work_state.specs.Stores.{Store, read, write, write_own, erp, erl_in}
+use Rattle.rt_work_state.specs.Items.{Item, Do, Fetch, Report, GiveUp, Leave, Begin, Serve, Next, Reads, Writes, Calls, Returns, Jumps, Leaps, Asks, Recovers, Errors, Lacks, from_label}
+use Rattle.rt_work.specs.Task.{next}
 
 -- ---- tasks
 

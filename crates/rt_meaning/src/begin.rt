@@ -1,7 +1,7 @@
 //! The tasks of a system at the start.
 
 ghost use Rattle.std.specs.Prelude.{◌≡◌, IfOk};
-ghost use Rattle.rt_work.specs.Stores as stores;
+ghost use Rattle.rt_work_state.specs.Stores as stores;
 ghost use Rattle.rt_meaning.specs.Step as step;
 ghost use Rattle.rt_meaning.specs.Run as run;
 ghost use Rattle.rt_meaning.specs.Roots as roots;
@@ -10,7 +10,7 @@ ghost use Rattle.rt_meaning.specs.States as states;
 use crate::system::{Act, Task};
 use rt_tree::{Datum, Proc};
 use rt_words::{List, Memory};
-use rt_work::{Item, Scene, Stack};
+use rt_work_state::{Item, Scene, Stack};
 use std::alloc::Global;
 
 /// A task of a system: the module, from 1, and the brick of its root, and its priority.

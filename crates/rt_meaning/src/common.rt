@@ -2,7 +2,7 @@
 
 use crate::kept::KeptRules;
 use rt_words::List;
-use rt_work::ModuleStore;
+use rt_work_state::ModuleStore;
 
 /// The rules, the store, and the number of bytes of the console that were taken.
 #[derive(Debug, Drop)]

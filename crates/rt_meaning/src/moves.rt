@@ -2,12 +2,12 @@
 
 ghost use Rattle.std.specs.Prelude.{◌≡◌, ◌≢◌, ◌^◌, ◌<◌, ◌+◌, ◌-◌, IfOk, OnOk, OnErr, Ok, Some, None, Option, ◌∷◌, [], true, false};
 ghost use Rattle.rt_rules.specs.Rules as rules;
-ghost use Rattle.rt_work.specs.Stores as stores;
-ghost use Rattle.rt_work.specs.Task as work;
+ghost use Rattle.rt_work_state.specs.Stores as stores;
+ghost use Rattle.rt_work_state.specs.Items as work;
 ghost use Rattle.rt_resolve.specs.World as world;
 ghost use Rattle.rt_meaning.specs.Step as step;
 ghost use Rattle.rt_meaning.specs.Run as run;
-ghost use Rattle.rt_work.specs.Nodes as n;
+ghost use Rattle.rt_work_state.specs.Nodes as n;
 ghost use Rattle.rt_meaning.specs.States as states;
 
 use crate::common::Common;
@@ -16,10 +16,7 @@ use rt_resolve::ModuleCode;
 use rt_rules::{Outcome, Svc};
 use rt_tree::{Datum, Location, Proc, Step};
 use rt_words::{List, Memory};
-use rt_work::{
-    Item, ModuleStore, Next, Request, Scene, Stack, copy_datum, copy_values, read, read_own, write,
-    write_own,
-};
+use rt_work_state::{Item, ModuleStore, Next, Request, Scene, Stack, copy_datum, copy_values, read, read_own, write, write_own};
 use std::alloc::Global;
 use std::mem::replace;
 

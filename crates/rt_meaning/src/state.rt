@@ -11,7 +11,7 @@ use rt_resolve::{ModuleCode, System, resolve};
 use rt_rules::State;
 use rt_tree::{Step, TypedModule};
 use rt_words::{List, Memory};
-use rt_work::ModuleStore;
+use rt_work_state::ModuleStore;
 use std::alloc::Global;
 
 /// A source state: the modules of a system, and what the run has come to.

@@ -1,16 +1,17 @@
 //! The modules of a system as the meaning reads them, and its tasks.
 
 ghost use Rattle.std.specs.Prelude.{◌≡◌, ◌+◌, ◌-◌, ◌*◌, ◌<◌, ◌≤◌, IfOk, OnOk, OnErr, Some, None, ◌∷◌, [], ◌++◌};
-ghost use Rattle.rt_work.specs.Task as task;
+ghost use Rattle.rt_work_state.specs.Items as task;
 ghost use Rattle.rt_resolve.specs.World as world;
 ghost use Rattle.rt_meaning.specs.Step as step;
-ghost use Rattle.rt_work.specs.Nodes as n;
+ghost use Rattle.rt_work_state.specs.Nodes as n;
 ghost use Rattle.rt_meaning.specs.States as states;
 
 use rt_resolve::{ModuleCode, code_of, module_at};
 use rt_tree::{Datum, Proc};
 use rt_words::{List, Memory};
-use rt_work::{Env, Item, Next, Scene, Stack, advance, copy_scene};
+use rt_work::advance;
+use rt_work_state::{Env, Item, Next, Scene, Stack, copy_scene};
 use std::alloc::Global;
 
 /// An activation of a procedure.

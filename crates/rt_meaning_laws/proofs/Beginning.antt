@@ -8,7 +8,7 @@ use Rattle.rt_tree_nodes.specs.declared.store.Proc.{Proc}
 use Rattle.rt_tree.specs.Modules.{is_here}
 use Rattle.rt_tree.specs.Stored as s
 use Rattle.rt_tree.specs.Stored.{System}
-use Rattle.rt_work.specs.Task.{Env}
+use Rattle.rt_work_state.specs.Items.{Env}
 use Rattle.rt_resolve.specs.Systems.{world}
 use Rattle.rt_meaning.specs.declared.begin.SourceTask.{SourceTask}
 use Rattle.rt_meaning.specs.Roots.{root_of, roots}

@@ -26,8 +26,8 @@ use Rattle.rt_tree.specs.Taken.{in_sort, in_brick}
 use Rattle.rt_rules.proofs.Ranges.{start_in_ranges}
 use Rattle.rt_resolve.specs.Starting as starting
 use Rattle.rt_resolve.specs.Starting.{Home, parts, home_of, sort_contents, brick_contents, byte_contents, text_contents, module_store, stores_from, starting_store}
-use Rattle.rt_work.specs.declared.store.ModuleStore.{ModuleStore}
-use Rattle.rt_work.specs.Stores.{numbered, brick_in, text_in}
+use Rattle.rt_work_state.specs.declared.store.ModuleStore.{ModuleStore}
+use Rattle.rt_work_state.specs.Stores.{numbered, brick_in, text_in}
 use Rattle.rt_meaning_laws.specs.Tasks.{TypedStore}
 use Rattle.rt_meaning_laws.specs.Starting.{NumbersFit}
 use Rattle.rt_meaning_laws.specs.Systems.{SystemFits}

@@ -9,7 +9,8 @@ use Rattle.rt_tree_nodes.specs.Tree.{Cond, Is, Both, Either}
 use Rattle.rt_tree_nodes.specs.Typing.{compare_fits}
 use Rattle.rt_tree.specs.Stored.{System, Suits}
 use Rattle.rt_work.specs.Numbers.{holds}
-use Rattle.rt_work.specs.Task.{Env, Item, Eval, Compare, AndThen, OrElse, Next, Going, same_by, compared, answered, by_truth, compare_then, and_then, or_then, choose_then, first, first_t}
+use Rattle.rt_work_state.specs.Items.{Env, Item, Eval, Compare, AndThen, OrElse, Next}
+use Rattle.rt_work.specs.Task.{Going, same_by, compared, answered, by_truth, compare_then, and_then, or_then, choose_then, first, first_t}
 use Rattle.rt_meaning_laws.specs.Slots.{Slot, AValue, ATruth}
 use Rattle.rt_meaning_laws.specs.Trees.{Started, Site, table, of_number, CondFits}
 use Rattle.rt_meaning_laws.specs.Work.{NextFits}

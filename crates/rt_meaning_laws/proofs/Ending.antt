@@ -14,10 +14,11 @@ use Rattle.rt_rules.specs.Roster.{Roster, has_ended, row}
 use Rattle.rt_rules.specs.Rules as rules
 use Rattle.rt_tree.specs.Opened.{FullModesOpen}
 use Rattle.rt_tree.specs.Stored.{System, HoldsInside, HoldsWritten}
-use Rattle.rt_work.specs.declared.request.Request.{Request}
-use Rattle.rt_work.specs.declared.request.Request.TheVariants.{Nothing, Takes, Puts, Rules}
-use Rattle.rt_work.specs.Stores.{Store}
-use Rattle.rt_work.specs.Task.{Env, Item, Begin, Serve, Next, Reads, Writes, Calls, Returns, Jumps, Leaps, Asks, Recovers, Errors, Lacks, next, serve_then}
+use Rattle.rt_work_state.specs.declared.request.Request.{Request}
+use Rattle.rt_work_state.specs.declared.request.Request.TheVariants.{Nothing, Takes, Puts, Rules}
+use Rattle.rt_work_state.specs.Stores.{Store}
+use Rattle.rt_work_state.specs.Items.{Env, Item, Begin, Serve, Next, Reads, Writes, Calls, Returns, Jumps, Leaps, Asks, Recovers, Errors, Lacks}
+use Rattle.rt_work.specs.Task.{next, serve_then}
 use Rattle.rt_resolve.specs.World.{World}
 use Rattle.rt_resolve.specs.Systems.{world}
 use Rattle.rt_meaning.specs.declared.begin.SourceTask.{SourceTask}

@@ -22,8 +22,9 @@ use Rattle.rt_tree.specs.Modules.{is_here, body_fits}
 use Rattle.rt_tree.specs.Statements.{starts_at_zero}
 use Rattle.rt_tree.specs.Stored as s
 use Rattle.rt_tree.specs.Stored.{System, HasBrick, module_of}
-use Rattle.rt_work.specs.Stores.{datum_in}
-use Rattle.rt_work.specs.Task.{Env, Item, Leave, from_label, service}
+use Rattle.rt_work_state.specs.Stores.{datum_in}
+use Rattle.rt_work_state.specs.Items.{Env, Item, Leave, from_label}
+use Rattle.rt_work.specs.Task.{service}
 use Rattle.rt_resolve.specs.World.{Code, World}
 use Rattle.rt_resolve.specs.Systems.{world, procedure_code}
 use Rattle.rt_meaning.specs.Step.{entered, leapt, todo_in}

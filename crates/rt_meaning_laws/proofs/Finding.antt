@@ -8,7 +8,8 @@ use Rattle.rt_tree_nodes.specs.declared.store.Datum.TheVariants.{Word, Reference
 use Rattle.rt_tree_nodes.specs.declared.store.Location.{Location}
 use Rattle.rt_tree_nodes.specs.declared.store.Proc.{Proc}
 use Rattle.rt_tree.specs.Stored.{System, IsCandidate}
-use Rattle.rt_work.specs.Task.{Env, Next, found, word_on, place_on, row_on, proc_on, truth_on, any_on}
+use Rattle.rt_work_state.specs.Items.{Env, Next}
+use Rattle.rt_work.specs.Task.{found, word_on, place_on, row_on, proc_on, truth_on, any_on}
 use Rattle.rt_meaning_laws.specs.Slots.{LeadsTo, Slot, AValue, AnOwn, ATruth, IsOf, FillAll, LeadsOwn}
 use Rattle.rt_tree.specs.FullModes.{MayStand}
 use Rattle.rt_meaning_laws.specs.Trees.{Site, table, IsWord}

@@ -6,7 +6,8 @@ use Rattle.rt_modes.specs.FullMode.{FullMode}
 use Rattle.rt_tree_nodes.specs.declared.store.Datum.{Datum}
 use Rattle.rt_tree_nodes.specs.declared.store.Datum.TheVariants.{Word}
 use Rattle.rt_tree.specs.Stored.{System}
-use Rattle.rt_work.specs.Task.{Env, Item, Do, Eval, At, Args, Fetch, Into, Pick, PickRow, Span, Tell, Length, Alter, Merge, Split, Report, Stand, Enter, EnterBy, Local, Save, Drop, Compare, Try, AndThen, OrElse, Choose, PastElse, Decide, Again, CountFor, TurnFor, CountTo, TurnTo, ToLabel, GiveUp, Leave, Begin, Serve, Calls, Jumps, Going, service, serve_then, report_then, turn_for_then, turn_to_then, first_q, first_t, next}
+use Rattle.rt_work_state.specs.Items.{Env, Item, Do, Eval, At, Args, Fetch, Into, Pick, PickRow, Span, Tell, Length, Alter, Merge, Split, Report, Stand, Enter, EnterBy, Local, Save, Drop, Compare, Try, AndThen, OrElse, Choose, PastElse, Decide, Again, CountFor, TurnFor, CountTo, TurnTo, ToLabel, GiveUp, Leave, Begin, Serve, Calls, Jumps}
+use Rattle.rt_work.specs.Task.{Going, service, serve_then, report_then, turn_for_then, turn_to_then, first_q, first_t, next}
 use Rattle.rt_meaning_laws.specs.Slots.{IsInt, Slot, AValue, AnOwn, ATruth, FillAll, values_on}
 use Rattle.rt_meaning_laws.specs.Trees.{Started, Site, table, ends}
 use Rattle.rt_meaning_laws.specs.Work.{by_value, at_start, TodoFits, AnswerFits, AskFits, ArgumentFits, NextFits}

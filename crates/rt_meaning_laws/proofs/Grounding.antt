@@ -24,9 +24,9 @@ use Rattle.rt_tree.specs.Stored.{System, HasBrick, StandsFor, StandsAt, Suits, I
 use Rattle.rt_resolve.specs.Bindings.{bound}
 use Rattle.rt_resolve.specs.Starting.{text_length}
 use Rattle.rt_resolve.specs.Systems.{env_of}
-use Rattle.rt_work.specs.Nodes as n
-use Rattle.rt_work.specs.Nodes.{proc_in as proc_or, length_in}
-use Rattle.rt_work.specs.Task.{item_of}
+use Rattle.rt_work_state.specs.Nodes as n
+use Rattle.rt_work_state.specs.Nodes.{proc_in as proc_or, length_in}
+use Rattle.rt_work_state.specs.Items.{item_of}
 use Rattle.rt_tree.specs.FullModes.{MayStand}
 use Rattle.rt_meaning_laws.specs.Levels.{of_module}
 use Rattle.rt_meaning_laws.specs.Slots.{LeadsTo}

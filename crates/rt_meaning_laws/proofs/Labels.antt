@@ -3,7 +3,7 @@ use Rattle.std.proofs.Common.{◌≡◌, ◌⊎◌, inl, inr, ℕ, ◌==◌, ◌
 use Rattle.std.proofs.lemmas.Bool.Decides.{nat_tests}
 use Rattle.rt_tree_nodes.specs.Tree.{Stmt, Inner, If, For, To, While, Seq, Done, Then, Mark}
 use Rattle.rt_tree.specs.Stored.{System}
-use Rattle.rt_work.specs.Task.{Item, Do, PastElse, Again, TurnFor, TurnTo, or_else, here_or, from_label, from_inside}
+use Rattle.rt_work_state.specs.Items.{Item, Do, PastElse, Again, TurnFor, TurnTo, or_else, here_or, from_label, from_inside}
 use Rattle.rt_meaning_laws.specs.Trees.{Started, Within, Site, behind, StmtFits, SeqFits, stmt_ends, seq_ends, ends}
 use Rattle.rt_meaning_laws.specs.Work.{TodoFits}
 use Rattle.rt_meaning_laws.proofs.Locals.{within_self, within_all}

@@ -8,8 +8,8 @@ use Rattle.rt_tree_nodes.specs.declared.store.Datum.{Datum}
 use Rattle.rt_tree_nodes.specs.declared.store.Datum.TheVariants.{Word}
 use Rattle.rt_tree_nodes.proofs.Same.{out_same}
 use Rattle.rt_tree.specs.Stored.{System}
-use Rattle.rt_work.specs.Stores.{datum_in}
-use Rattle.rt_work.specs.Task as task
+use Rattle.rt_work_state.specs.Stores.{datum_in}
+use Rattle.rt_work_state.specs.Items as task
 use Rattle.rt_meaning_laws.specs.Slots.{IsInt, IsOf}
 use Rattle.rt_meaning_laws.specs.Trees.{Started, Within, and_local, Site, table, mode_of_local, local_mode, IsLoop}
 use Rattle.rt_meaning_laws.specs.Work.{LocalsFit}

@@ -3,8 +3,8 @@ use Rattle.std.proofs.Common.{ℕ, zero, suc, sym, subst}
 use Rattle.rt_rules.specs.declared.service.Outcome.{Outcome}
 use Rattle.rt_rules.specs.declared.service.Outcome.TheVariants.{Go}
 use Rattle.rt_tree.specs.Stored.{HoldsInside, HoldsWritten}
-use Rattle.rt_work.specs.declared.request.Request.{Request}
-use Rattle.rt_work.specs.Stores.{Store}
+use Rattle.rt_work_state.specs.declared.request.Request.{Request}
+use Rattle.rt_work_state.specs.Stores.{Store}
 use Rattle.rt_resolve.specs.World.{World}
 use Rattle.rt_meaning.specs.Answers.{MayCome}
 use Rattle.rt_meaning.specs.Step.{Task, task_step}

@@ -17,7 +17,7 @@ use Rattle.rt_tree.specs.declared.standing.Standing.TheVariants as standing
 use Rattle.rt_tree.specs.Modules.{Stands, stands, is_alone, is_length, part_mode, mode_along}
 use Rattle.rt_tree.specs.Stored as s
 use Rattle.rt_tree.specs.Stored.{System, StandsAt, Suits}
-use Rattle.rt_work.specs.Stores.{deeper}
+use Rattle.rt_work_state.specs.Stores.{deeper}
 use Rattle.rt_work.specs.Task.{in_row}
 use Rattle.rt_tree.specs.FullModes.{MayStand}
 use Rattle.rt_tree.specs.Opened.{Same, FieldsSame, LevelSame}

@@ -9,8 +9,8 @@ use Rattle.rt_rules.specs.Rules as rules
 use Rattle.rt_rules.proofs.Ranges.{ranges-happens}
 use Rattle.rt_rules.proofs.Walks.{running_is_ready}
 use Rattle.rt_tree.specs.Stored.{System, HoldsInside, HoldsWritten}
-use Rattle.rt_work.specs.declared.request.Request.{Request}
-use Rattle.rt_work.specs.declared.request.Request.TheVariants.{Nothing, Takes, Puts, Rules}
+use Rattle.rt_work_state.specs.declared.request.Request.{Request}
+use Rattle.rt_work_state.specs.declared.request.Request.TheVariants.{Nothing, Takes, Puts, Rules}
 use Rattle.rt_resolve.specs.World.{World}
 use Rattle.rt_meaning.specs.Run.{State, take, serve, task_in, task_at, stepped, step_by, tick}
 use Rattle.rt_meaning.specs.Step.{Task, request}

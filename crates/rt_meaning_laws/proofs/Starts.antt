@@ -42,9 +42,10 @@ use Rattle.rt_resolve.specs.Bindings.{bound, proc_or_none}
 use Rattle.rt_resolve.specs.Starting as starting
 use Rattle.rt_resolve.specs.Starting.{Home, Starting, lead, array_length, length_found, location_of, leads_by, elements, parts, record_parts, listed, place_start, home_of}
 use Rattle.rt_resolve.specs.Systems.{env_of}
-use Rattle.rt_work.specs.Nodes as n
-use Rattle.rt_work.specs.Stores.{deeper}
-use Rattle.rt_work.specs.Task.{item_of, in_row}
+use Rattle.rt_work_state.specs.Nodes as n
+use Rattle.rt_work_state.specs.Stores.{deeper}
+use Rattle.rt_work_state.specs.Items.{item_of}
+use Rattle.rt_work.specs.Task.{in_row}
 use Rattle.rt_meaning_laws.specs.Levels.{of_module}
 use Rattle.rt_meaning_laws.specs.Slots.{LeadsTo}
 use Rattle.rt_meaning_laws.specs.Trees.{Site}

@@ -11,7 +11,8 @@ use Rattle.rt_tree.specs.Statements.{starts_at_zero}
 use Rattle.rt_tree.specs.Stored.{System}
 use Rattle.rt_words.specs.Word.{wrap_add}
 use Rattle.rt_work.specs.Numbers.{turns, turns_to}
-use Rattle.rt_work.specs.Task.{Env, Item, Do, Eval, Local, Save, Drop, Choose, PastElse, Decide, Again, CountFor, TurnFor, CountTo, TurnTo, Try, ToLabel, GiveUp, Jumps, Going, a_word, word_at, local_then, save_then, drop_then, give_up_then, counted, count_by, count_for_then, count_to_then, stepped, turn_by, turn_for_then, turn_to_then, leap_or, nth_label, to_label_then, choose_then, first, first_s, first_q}
+use Rattle.rt_work_state.specs.Items.{Env, Item, Do, Eval, Local, Save, Drop, Choose, PastElse, Decide, Again, CountFor, TurnFor, CountTo, TurnTo, Try, ToLabel, GiveUp, Jumps, a_word, word_at}
+use Rattle.rt_work.specs.Task.{Going, local_then, save_then, drop_then, give_up_then, counted, count_by, count_for_then, count_to_then, stepped, turn_by, turn_for_then, turn_to_then, leap_or, nth_label, to_label_then, choose_then, first, first_s, first_q}
 use Rattle.rt_meaning_laws.specs.Slots.{IsInt, Slot, AValue, APlace, AnOwn, IsOf, FillAll}
 use Rattle.rt_meaning_laws.specs.Trees.{Started, Within, and_local, Site, table, local_mode, IsLoop, AreLoops, behind, of_number, LabelFits, LabelsFit, StmtFits, SeqFits, stmt_ends, seq_ends, ends}
 use Rattle.rt_meaning_laws.specs.Work.{TodoFits, LocalsFit, AnswerFits, NextFits}

@@ -18,10 +18,10 @@ use Rattle.rt_rules.specs.declared.service.Outcome.TheVariants.{Go, Waits, Error
 use Rattle.rt_rules.specs.declared.service.Svc.TheVariants as svc
 use Rattle.rt_tree.specs.Stored as s
 use Rattle.rt_tree.specs.Stored.{System, StandsAt, Suits, TypedOwn, HoldsInside, HoldsWritten}
-use Rattle.rt_work.specs.declared.request.Request.{Request}
-use Rattle.rt_work.specs.declared.request.Request.TheVariants.{Nothing, Takes, Puts, Rules}
-use Rattle.rt_work.specs.Stores.{Store, read, write, write_own, erp, erl_in}
-use Rattle.rt_work.specs.Task.{Item, Fetch, Report, GiveUp, Leave, Next, Reads, Writes, Calls, Returns, Jumps, Leaps, Asks, Recovers, Errors, Lacks}
+use Rattle.rt_work_state.specs.declared.request.Request.{Request}
+use Rattle.rt_work_state.specs.declared.request.Request.TheVariants.{Nothing, Takes, Puts, Rules}
+use Rattle.rt_work_state.specs.Stores.{Store, read, write, write_own, erp, erl_in}
+use Rattle.rt_work_state.specs.Items.{Item, Fetch, Report, GiveUp, Leave, Next, Reads, Writes, Calls, Returns, Jumps, Leaps, Asks, Recovers, Errors, Lacks}
 use Rattle.rt_resolve.specs.World.{Code, World}
 use Rattle.rt_meaning.specs.Step.{Act, Task, Over, Failed, Doing, After, with_todo, entered, on_values, returned, leapt, served, act, next_of, asked}
 use Rattle.rt_tree.specs.Opened.{EachSame, AnySame, LevelSame}

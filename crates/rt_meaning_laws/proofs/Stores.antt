@@ -15,7 +15,7 @@ use Rattle.rt_tree_nodes.specs.Scopes.{field_at}
 use Rattle.rt_tree_nodes.specs.Typing.{is_value}
 use Rattle.rt_tree.specs.Stored as s
 use Rattle.rt_tree.specs.Stored.{System, StandsAt, Suits, Holds, HoldAll, HoldEach, Typed, TypedOwn, IsCandidate, part, part_of, inside, change_found, changed, with_part, written, HoldsInside}
-use Rattle.rt_work.specs.Stores.{Store, datum_in, datum_at, datum_of, origin_in, read, first_own}
+use Rattle.rt_work_state.specs.Stores.{Store, datum_in, datum_at, datum_of, origin_in, read, first_own}
 use Rattle.rt_tree.specs.FullModes.{MayStand}
 use Rattle.rt_tree.specs.Opened.{LevelSame}
 use Rattle.rt_meaning_laws.specs.Levels.{MayBe, IsTableOf}

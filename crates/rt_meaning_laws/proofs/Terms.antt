@@ -19,8 +19,9 @@ use Rattle.rt_tree.specs.Stored.{System, Suits, IsCandidate}
 use Rattle.rt_work.specs.declared.numbers.Share.{Share}
 use Rattle.rt_work.specs.declared.numbers.Share.TheVariants.{Gives, Fails}
 use Rattle.rt_work.specs.Numbers.{one_of, two_of, divided}
-use Rattle.rt_work.specs.Stores.{deeper}
-use Rattle.rt_work.specs.Task.{Env, item, text, Item, Eval, Args, Fetch, Into, Pick, PickRow, Span, Tell, Length, Alter, Merge, Split, Report, Stand, Enter, EnterBy, Next, Reads, Calls, Errors, Going, in_row, fetch_then, into_then, pick_then, pick_row_then, span_then, tell_then, length_then, alter_then, merge_then, share_then, split_then, enter_then, enter_by_then, taken, left, how_many, first, first_p, first_all}
+use Rattle.rt_work_state.specs.Stores.{deeper}
+use Rattle.rt_work_state.specs.Items.{Env, item, text, Item, Eval, Args, Fetch, Into, Pick, PickRow, Span, Tell, Length, Alter, Merge, Split, Report, Stand, Enter, EnterBy, Next, Reads, Calls, Errors, how_many}
+use Rattle.rt_work.specs.Task.{Going, in_row, fetch_then, into_then, pick_then, pick_row_then, span_then, tell_then, length_then, alter_then, merge_then, share_then, split_then, enter_then, enter_by_then, taken, left, first, first_p, first_all}
 use Rattle.rt_tree.specs.FullModes.{MayStand}
 use Rattle.rt_meaning_laws.specs.Slots.{LeadsTo, IsInt, IsByte, IsOwn, Slot, AValue, APlace, AnOwn, IsOf, FillAll, AreOf, LeadsOwn, values_on, result_on}
 use Rattle.rt_meaning_laws.specs.Slots as slots

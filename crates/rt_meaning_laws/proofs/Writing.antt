@@ -21,8 +21,8 @@ use Rattle.rt_tree_nodes.specs.Scopes.{field_at}
 use Rattle.rt_tree.specs.Modules.{mode_along}
 use Rattle.rt_tree.specs.Stored as s
 use Rattle.rt_tree.specs.Stored.{System, HasBrick, StandsAt, Suits, Holds, HoldEach, Typed, TypedOwn, IsCandidate, change_found, changed, with_part, written, HoldsWritten}
-use Rattle.rt_work.specs.declared.store.ModuleStore.{ModuleStore}
-use Rattle.rt_work.specs.Stores.{Store, numbered, brick_in, text_in, origin_in, changed_number, module_written, write}
+use Rattle.rt_work_state.specs.declared.store.ModuleStore.{ModuleStore}
+use Rattle.rt_work_state.specs.Stores.{Store, numbered, brick_in, text_in, origin_in, changed_number, module_written, write}
 use Rattle.rt_meaning_laws.specs.Slots.{IsInt, IsOwn, IsOf}
 use Rattle.rt_meaning_laws.specs.Slots as slots
 use Rattle.rt_meaning_laws.specs.Tasks.{TypedStore}

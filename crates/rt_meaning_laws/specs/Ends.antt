@@ -8,7 +8,7 @@ use Rattle.rt_rules.specs.declared.task.TaskRow.{TaskRow}
 use Rattle.rt_rules.specs.Roster.{has_ended}
 use Rattle.rt_rules.specs.Rules.{running}
 use Rattle.rt_tree.specs.Stored.{System}
-use Rattle.rt_work.specs.Task.{Begin, Serve}
+use Rattle.rt_work_state.specs.Items.{Begin, Serve}
 use Rattle.rt_resolve.specs.Systems.{world}
 use Rattle.rt_meaning.specs.declared.begin.SourceTask.{SourceTask}
 use Rattle.rt_meaning.specs.Roots.{roots}

@@ -12,7 +12,7 @@ use Rattle.rt_tree_nodes.specs.Scopes.{faces, field_mode, proc_mode}
 use Rattle.rt_tree_nodes.specs.Typing.{Shared, item_found}
 use Rattle.rt_tree.specs.Stored.{System, StandsAt, Suits, IsCandidate}
 use Rattle.rt_tree.specs.Taken.{taken}
-use Rattle.rt_work.specs.Task.{Env, item, text}
+use Rattle.rt_work_state.specs.Items.{Env, item, text}
 use Rattle.rt_tree.specs.FullModes.{MayStand}
 use Rattle.rt_meaning_laws.specs.Levels.{IsTableOf, FullModesTell}
 use Rattle.rt_meaning_laws.specs.Slots.{LeadsTo, IsByte}

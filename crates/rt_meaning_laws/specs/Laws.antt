@@ -9,8 +9,9 @@ use Rattle.rt_tree_nodes.specs.declared.store.Location.{Location}
 use Rattle.rt_tree_nodes.specs.Typing.{is_value}
 use Rattle.rt_rules.specs.declared.service.Outcome.{Outcome}
 use Rattle.rt_tree.specs.Stored.{System, module_of, StandsAt, Suits}
-use Rattle.rt_work.specs.Stores.{Store, read, write}
-use Rattle.rt_work.specs.Task.{Env, Item, next}
+use Rattle.rt_work_state.specs.Stores.{Store, read, write}
+use Rattle.rt_work_state.specs.Items.{Env, Item}
+use Rattle.rt_work.specs.Task.{next}
 use Rattle.rt_resolve.specs.Systems.{world}
 use Rattle.rt_resolve.specs.World.{World}
 use Rattle.rt_meaning.specs.declared.begin.SourceTask.{SourceTask}

@@ -3,9 +3,9 @@ use Rattle.std.specs.Prelude.{◌≡◌, ℕ, zero, suc}
 use Rattle.rt_rules.specs.declared.service.Outcome.{Outcome}
 use Rattle.rt_rules.specs.declared.service.Outcome.TheVariants.{Go}
 use Rattle.rt_tree.specs.Stored.{System}
-use Rattle.rt_work.specs.declared.request.Request.{Request}
-use Rattle.rt_work.specs.declared.request.Request.TheVariants.{Nothing}
-use Rattle.rt_work.specs.Stores.{Store}
+use Rattle.rt_work_state.specs.declared.request.Request.{Request}
+use Rattle.rt_work_state.specs.declared.request.Request.TheVariants.{Nothing}
+use Rattle.rt_work_state.specs.Stores.{Store}
 use Rattle.rt_resolve.specs.World.{World}
 use Rattle.rt_meaning.specs.Answers.{MayCome}
 use Rattle.rt_meaning.specs.Step.{Task, Doing, request, task_step}

@@ -9,7 +9,7 @@ use Rattle.rt_tree_nodes.specs.declared.brick.ProcBody.{ProcBody}
 use Rattle.rt_tree.specs.Modules.{is_here, every_node_fits}
 use Rattle.rt_tree.specs.Stored.{System, HasBrick, module_of}
 use Rattle.rt_tree.specs.Within.{tree_of}
-use Rattle.rt_work.specs.Task.{Item, Leave, from_label}
+use Rattle.rt_work_state.specs.Items.{Item, Leave, from_label}
 use Rattle.rt_tree.specs.Opened.{IsTable}
 use Rattle.rt_meaning_laws.specs.Trees.{Started}
 use Rattle.rt_meaning_laws.specs.Named.{any_name, SeqNamed}

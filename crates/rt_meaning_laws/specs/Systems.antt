@@ -17,7 +17,7 @@ use Rattle.rt_tree.specs.Modules.{is_here, every_node_fits}
 use Rattle.rt_tree.specs.Statements.{starts_at_zero}
 use Rattle.rt_tree.specs.Stored.{System, HasBrick, module_of}
 use Rattle.rt_tree.specs.Within.{tree_of}
-use Rattle.rt_work.specs.Task.{Item, Leave, from_label}
+use Rattle.rt_work_state.specs.Items.{Item, Leave, from_label}
 use Rattle.rt_tree.specs.Opened.{FieldsSame}
 use Rattle.rt_meaning_laws.specs.Levels.{FullModesTell}
 use Rattle.rt_meaning_laws.specs.Trees.{Started, Site, local_mode, SeqFits, ends}

@@ -6,8 +6,8 @@ use Rattle.rt_modes.specs.FullMode.{FullMode}
 use Rattle.rt_tree_nodes.specs.declared.store.Datum.{Datum}
 use Rattle.rt_tree_nodes.specs.declared.store.Proc.{Proc}
 use Rattle.rt_tree.specs.Stored.{System, Typed, TypedOwn}
-use Rattle.rt_work.specs.Stores.{Store, origin_in}
-use Rattle.rt_work.specs.Task.{Lacks}
+use Rattle.rt_work_state.specs.Stores.{Store, origin_in}
+use Rattle.rt_work_state.specs.Items.{Lacks}
 use Rattle.rt_resolve.specs.World.{World}
 use Rattle.rt_meaning.specs.Step.{Act, Task, Over, Failed, Doing, entered, leapt, next_of}
 use Rattle.rt_tree.specs.FullModes.{MayStand}

@@ -16,10 +16,11 @@ use Rattle.rt_tree_nodes.specs.Typing.{is_value, monadic_mode, dyadic_mode, comp
 use Rattle.rt_rules.specs.declared.service.Svc.TheVariants as svc
 use Rattle.rt_tree.specs.Modules.{is_here}
 use Rattle.rt_tree.specs.Stored.{System, HasBrick, IsCandidate, brick}
-use Rattle.rt_work.specs.declared.request.Request.{Request}
-use Rattle.rt_work.specs.declared.request.Request.TheVariants.{Nothing, Takes, Rules}
-use Rattle.rt_work.specs.Task.{Env, Item, Do, Eval, At, Args, Fetch, Into, Pick, PickRow, Span, Tell, Length, Alter, Merge, Split, Report, Stand, Enter, EnterBy, Local, Save, Drop, Compare, Try, AndThen, OrElse, Choose, PastElse, Decide, Again, CountFor, TurnFor, CountTo, TurnTo, ToLabel, GiveUp, Leave, Begin, Serve, Next, Reads, Writes, Calls, Returns, Jumps, Leaps, Asks, Recovers, Errors, Lacks, service}
-use Rattle.rt_work.specs.Task as task
+use Rattle.rt_work_state.specs.declared.request.Request.{Request}
+use Rattle.rt_work_state.specs.declared.request.Request.TheVariants.{Nothing, Takes, Rules}
+use Rattle.rt_work_state.specs.Items.{Env, Item, Do, Eval, At, Args, Fetch, Into, Pick, PickRow, Span, Tell, Length, Alter, Merge, Split, Report, Stand, Enter, EnterBy, Local, Save, Drop, Compare, Try, AndThen, OrElse, Choose, PastElse, Decide, Again, CountFor, TurnFor, CountTo, TurnTo, ToLabel, GiveUp, Leave, Begin, Serve, Next, Reads, Writes, Calls, Returns, Jumps, Leaps, Asks, Recovers, Errors, Lacks}
+use Rattle.rt_work.specs.Task.{service}
+use Rattle.rt_work_state.specs.Items as task
 use Rattle.rt_tree.specs.FullModes.{MayStand}
 use Rattle.rt_resolve.specs.Matching.{no_records}
 use Rattle.rt_meaning_laws.specs.Slots.{LeadsTo, IsInt, IsByte, Slot, AValue, APlace, AnOwn, ATruth, IsOf, FillAll, AreOf, LeadsOwn, values_on, result_on}

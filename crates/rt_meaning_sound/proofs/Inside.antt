@@ -23,7 +23,7 @@ use Rattle.rt_tree_nodes.specs.Scopes.{Scope}
 use Rattle.rt_tree_nodes.specs.Tree.{Cond, Stmt, If, Seq, Done}
 use Rattle.rt_exprs.specs.declared.scope.Meaning.TheVariants as meaning
 use Rattle.rt_tree.specs.Statements.{starts_at_zero, start_tree, starts_tree, branches_tree, if_tree, body_tree}
-use Rattle.rt_work.specs.Task.{Again, TurnFor, TurnTo}
+use Rattle.rt_work_state.specs.Items.{Again, TurnFor, TurnTo}
 use Rattle.rt_check_bodies.specs.declared.tally.Tally.{Tally}
 use Rattle.rt_check_bodies.specs.Parts.{next_local, three_locals, test_or}
 use Rattle.rt_check_bodies.specs.Sights.{Sight, within, test_in}

@@ -23,7 +23,7 @@ use Rattle.rt_exprs.specs.Outcomes.{Outcome}
 use Rattle.rt_tree.specs.Modules.{local_stands}
 use Rattle.rt_tree.specs.Statements.{Sight as Seen, closed}
 use Rattle.rt_exprs_laws.specs.Agreeing.{IsThere}
-use Rattle.rt_work.specs.Task.{Leave}
+use Rattle.rt_work_state.specs.Items.{Leave}
 use Rattle.rt_check_bodies.specs.declared.tally.Tally.{Tally}
 use Rattle.rt_check_bodies.specs.Parts.{noted_if, next_local, mode_or}
 use Rattle.rt_check_bodies.specs.Sights.{Names, Sight, holds, within, mode_in}

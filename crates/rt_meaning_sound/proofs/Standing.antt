@@ -3,7 +3,7 @@ use Rattle.std.proofs.Common.{◌≡◌, ℕ, zero, suc, ◌+◌, ◌<◌, ◌�
 use Rattle.std.proofs.lemmas.Bool.Decides.{nat_tests}
 use Rattle.rt_tree_nodes.specs.Tree.{Cond, Stmt, If, Seq, Then, Mark}
 use Rattle.rt_tree.specs.Statements.{marks}
-use Rattle.rt_work.specs.Task.{Item, Do, PastElse, or_else, here_or, from_label, from_inside}
+use Rattle.rt_work_state.specs.Items.{Item, Do, PastElse, or_else, here_or, from_label, from_inside}
 
 -- whatever is to be done behind the sequence
 abbrev pub StandsIn : Seq → ℕ → Type 0

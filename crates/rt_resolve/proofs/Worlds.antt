@@ -7,8 +7,8 @@ use Rattle.rt_tree.specs.Modules.{every_node_fits, is_short}
 use Rattle.rt_tree_nodes.specs.declared.store.Proc.{Proc}
 use Rattle.rt_resolve.specs.declared.code.Code.{Code as CodeNode}
 use Rattle.rt_resolve.specs.declared.code.ModuleCode.{ModuleCode}
-use Rattle.rt_work.specs.Stores.{numbered}
-use Rattle.rt_work.specs.Task.{Env}
+use Rattle.rt_work_state.specs.Stores.{numbered}
+use Rattle.rt_work_state.specs.Items.{Env}
 use Rattle.rt_resolve.specs.World as w
 use Rattle.rt_resolve.specs.World.{Code}
 use Rattle.rt_resolve.specs.Systems as systems

@@ -24,9 +24,9 @@ use Rattle.rt_tree_nodes.specs.Scopes.{scope_of}
 use Rattle.rt_tree_nodes.specs.Scopes.{Scope}
 use Rattle.rt_tree_nodes.specs.Code.{scope}
 use Rattle.rt_resolve.specs.declared.starting.Home.{Home as HomeNode}
-use Rattle.rt_work.specs.declared.store.ModuleStore.{ModuleStore}
-use Rattle.rt_work.specs.Stores.{Store}
-use Rattle.rt_work.specs.Nodes.{length_in}
+use Rattle.rt_work_state.specs.declared.store.ModuleStore.{ModuleStore}
+use Rattle.rt_work_state.specs.Stores.{Store}
+use Rattle.rt_work_state.specs.Nodes.{length_in}
 use Rattle.rt_resolve.specs.Bindings.{bounds, proc_or_none}
 
 -- a module of a system: what its data may name, the lengths of its strings, its number, and to what each of its bricks is

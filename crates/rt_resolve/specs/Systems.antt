@@ -10,10 +10,10 @@ use Rattle.rt_tree_nodes.specs.Scopes.{Scope}
 use Rattle.rt_tree.specs.Statements.{body_tree}
 use Rattle.rt_resolve.specs.declared.code.Code.{Code as CodeNode}
 use Rattle.rt_resolve.specs.declared.code.ModuleCode.{ModuleCode}
-use Rattle.rt_work.specs.declared.scene.Env.{Env as EnvNode}
-use Rattle.rt_work.specs.Nodes as n
-use Rattle.rt_work.specs.Stores.{numbered}
-use Rattle.rt_work.specs.Task.{Env}
+use Rattle.rt_work_state.specs.declared.scene.Env.{Env as EnvNode}
+use Rattle.rt_work_state.specs.Nodes as n
+use Rattle.rt_work_state.specs.Stores.{numbered}
+use Rattle.rt_work_state.specs.Items.{Env}
 use Rattle.rt_resolve.specs.World.{Code, World, code}
 use Rattle.rt_resolve.specs.Bindings.{bounds}
 use Rattle.rt_resolve.specs.Starting.{text_length}

@@ -14,7 +14,7 @@ use Rattle.rt_tree.specs.Statements.{labelled_tree, sequence_tree, starts_tree, 
 use Rattle.rt_tree_nodes.specs.Tree.{Term, Num, Cond, Is, Both, Either, Stmt, If, Switch, Seq, Done, Then}
 use Rattle.rt_tree_nodes.specs.Typing.{Spot, OnLocal, OnPath, OnRow, Placed, Valued, valued}
 use Rattle.rt_tree_nodes.specs.Typing as typing
-use Rattle.rt_work.specs.Nodes as n
+use Rattle.rt_work_state.specs.Nodes as n
 use Rattle.rt_resolve.specs.declared.join.Joins.{Joins}
 use Rattle.rt_resolve.specs.declared.join.Joins.TheVariants as joins
 use Rattle.rt_resolve.specs.declared.join.Line.{Line}

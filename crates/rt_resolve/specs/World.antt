@@ -4,9 +4,9 @@ use Rattle.rt_tree_nodes.specs.declared.store.Proc.{Proc}
 use Rattle.rt_tree_nodes.specs.Tree.{Seq}
 use Rattle.rt_resolve.specs.declared.code.Code.{Code as CodeNode}
 use Rattle.rt_resolve.specs.declared.code.ModuleCode.{ModuleCode}
-use Rattle.rt_work.specs.Stores.{numbered}
-use Rattle.rt_work.specs.Nodes as n
-use Rattle.rt_work.specs.Task.{Env}
+use Rattle.rt_work_state.specs.Stores.{numbered}
+use Rattle.rt_work_state.specs.Nodes as n
+use Rattle.rt_work_state.specs.Items.{Env}
 
 -- a procedure that has a body
 pub record Code : Type 0 where

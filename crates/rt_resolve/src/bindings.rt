@@ -1,7 +1,7 @@
 //! To what the bricks of the modules of a system are bound.
 
 ghost use Rattle.std.specs.Prelude.{◌≡◌, ◌≤◌, All, IfOk, length};
-ghost use Rattle.rt_work.specs.Stores as stores;
+ghost use Rattle.rt_work_state.specs.Stores as stores;
 ghost use Rattle.rt_resolve.specs.Bindings as bindings;
 ghost use Rattle.rt_resolve.specs.Systems.{IsNumbered};
 

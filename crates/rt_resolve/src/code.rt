@@ -2,12 +2,12 @@
 
 ghost use Rattle.std.specs.Prelude.{◌≡◌, Some};
 ghost use Rattle.std.specs.Option.{option_copied};
-ghost use Rattle.rt_work.specs.Stores as stores;
+ghost use Rattle.rt_work_state.specs.Stores as stores;
 ghost use Rattle.rt_resolve.specs.World as world;
 
 use rt_tree::Proc;
 use rt_words::List;
-use rt_work::{Body, Env};
+use rt_work_state::{Body, Env};
 
 /// A procedure that has a body.
 #[derive(Drop)]

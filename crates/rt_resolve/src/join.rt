@@ -3,13 +3,13 @@
 ghost use Rattle.std.specs.Prelude.{◌≡◌, IfOk, map};
 ghost use Rattle.rt_tree.specs.Statements as statements;
 ghost use Rattle.rt_tree_nodes.specs.Tree as tree;
-ghost use Rattle.rt_work.specs.Nodes as n;
+ghost use Rattle.rt_work_state.specs.Nodes as n;
 ghost use Rattle.rt_resolve.specs.Trees as trees;
 
 use crate::share::shared;
 use rt_tree::Rel;
 use rt_words::{List, Memory};
-use rt_work::{CondNode, LabelsNode, SeqNode, StmtNode, TermNode, TermsNode};
+use rt_work_state::{CondNode, LabelsNode, SeqNode, StmtNode, TermNode, TermsNode};
 use std::alloc::Global;
 
 /// How conditions are joined.

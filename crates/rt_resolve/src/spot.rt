@@ -6,7 +6,7 @@ ghost use Rattle.rt_tree.specs.Statements as statements;
 ghost use Rattle.rt_tree_nodes.specs.Typing as typing;
 ghost use Rattle.rt_tree_nodes.specs.Tree as tree;
 ghost use Rattle.rt_modes.specs.declared.mode.Mode.{out-Mode};
-ghost use Rattle.rt_work.specs.Nodes as n;
+ghost use Rattle.rt_work_state.specs.Nodes as n;
 ghost use Rattle.rt_resolve.specs.Trees as trees;
 
 use crate::share::shared;
@@ -14,7 +14,7 @@ use rt_modes::Mode;
 use rt_tree::{Found, Lent, ValueMode, copy_mode};
 use rt_tree_nodes::copy_lent;
 use rt_words::Memory;
-use rt_work::{PathNode, StmtNode, TermNode};
+use rt_work_state::{PathNode, StmtNode, TermNode};
 use std::alloc::Global;
 
 /// What a place is: a local, a shared place, or the array behind a REF ARRAY.

@@ -3,7 +3,7 @@
 ghost use Rattle.std.specs.Prelude.{◌≡◌, ◌∷◌, IfOk, map, slice_get};
 ghost use Rattle.std.specs.Option.{option_copied};
 ghost use Rattle.rt_modes.specs.declared.mode.Mode.{out-Mode};
-ghost use Rattle.rt_work.specs.Nodes.{length_in};
+ghost use Rattle.rt_work_state.specs.Nodes.{length_in};
 ghost use Rattle.rt_resolve.specs.Starting as starting;
 
 use rt_modes::{Field, Mode};

@@ -6,7 +6,7 @@ ghost use Rattle.rt_tree.specs.Statements as statements;
 ghost use Rattle.rt_tree_nodes.specs.Tree as tree;
 ghost use Rattle.rt_tree_nodes.specs.Typing as typing;
 ghost use Rattle.rt_tree_nodes.specs.declared.statement.Stat.TheVariants as form;
-ghost use Rattle.rt_work.specs.Nodes as n;
+ghost use Rattle.rt_work_state.specs.Nodes as n;
 ghost use Rattle.rt_resolve.specs.Trees as trees;
 
 use crate::join::{
@@ -20,7 +20,7 @@ use rt_tree::{
     Body, Branch, Labelled, LocalStart, Place, Rel, Scope, Stat, Test, Value, found_at, result_of,
 };
 use rt_words::{List, Memory};
-use rt_work::{CondNode, SeqNode, StmtNode, TermNode};
+use rt_work_state::{CondNode, SeqNode, StmtNode, TermNode};
 use std::alloc::Global;
 
 /// The plain tree of a condition.

@@ -14,7 +14,7 @@ use crate::starting::{Home, bricks_contents, texts_contents};
 use crate::statements::body;
 use rt_tree::{Brick, BrickSort, ProcBody, Scope, TypedModule};
 use rt_words::{Bytes, List, Memory};
-use rt_work::{Body, Env, ModuleStore};
+use rt_work_state::{Body, Env, ModuleStore};
 use std::alloc::Global;
 
 /// What a system begins with: what its tasks read of its modules, and its starting store.

@@ -4,7 +4,7 @@ ghost use Rattle.std.specs.Prelude.{◌≡◌, IfOk, map};
 ghost use Rattle.rt_tree_nodes.specs.Code as seen;
 ghost use Rattle.rt_tree_nodes.specs.Tree as tree;
 ghost use Rattle.rt_tree_nodes.specs.Typing as typing;
-ghost use Rattle.rt_work.specs.Nodes as n;
+ghost use Rattle.rt_work_state.specs.Nodes as n;
 ghost use Rattle.rt_resolve.specs.Trees as trees;
 
 use crate::join::joined_terms;
@@ -14,7 +14,7 @@ use rt_modes::Mode;
 use rt_tree::{Callee, Op2, Place, Scope, Value, ValueMode, found_at, mode_of};
 use rt_tree_nodes::copy_value_mode;
 use rt_words::{List, Memory};
-use rt_work::{PathNode, TermNode, TermsNode};
+use rt_work_state::{PathNode, TermNode, TermsNode};
 use std::alloc::Global;
 use std::rc::Rc;
 

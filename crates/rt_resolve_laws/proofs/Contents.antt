@@ -5,7 +5,7 @@ use Rattle.rt_tree_nodes.specs.declared.store.Contents.TheOpen.{Contents-F}
 use Rattle.rt_tree_nodes.specs.declared.store.Contents.TheVariants as contents
 use Rattle.rt_tree_nodes.specs.declared.store.Datum.{Datum}
 use Rattle.rt_tree.specs.Stored.{inside, part, part_of, change_found, changed, with_datum, with_part, written}
-use Rattle.rt_work.specs.Stores.{datum_at, datum_of}
+use Rattle.rt_work_state.specs.Stores.{datum_at, datum_of}
 
 parts_out : (cs : List Contents) → out-Contents (contents.Parts cs) ≡ Contents-F.Parts cs
 parts_out cs = search the_lemmas

@@ -8,8 +8,8 @@ use Rattle.rt_tree_nodes.specs.declared.store.Location.TheVariants.{Shared, Own}
 use Rattle.rt_tree_nodes.specs.declared.store.Origin.{Origin}
 use Rattle.rt_tree_nodes.specs.declared.store.Origin.TheVariants.{Brick, Text}
 use Rattle.rt_tree.specs.Stored.{inside, written}
-use Rattle.rt_work.specs.declared.store.ModuleStore.{ModuleStore}
-use Rattle.rt_work.specs.Stores.{Store, numbered, datum_in, datum_of, brick_in, text_in, origin_in, changed_number, module_of, module_written, write}
+use Rattle.rt_work_state.specs.declared.store.ModuleStore.{ModuleStore}
+use Rattle.rt_work_state.specs.Stores.{Store, numbered, datum_in, datum_of, brick_in, text_in, origin_in, changed_number, module_of, module_written, write}
 use Rattle.rt_work.specs.Task.{same_path, same_origin, same_location}
 use Rattle.rt_resolve_laws.specs.Reading.{ReadsWritten, ReadsOther, SameWhereEqual}
 use Rattle.rt_resolve_laws.proofs.Contents.{get_set, get_other, changed_other, changed_here, reads_written as reads_inside, reads_other as reads_beside}

@@ -12,10 +12,10 @@ use Rattle.rt_tree_nodes.specs.Scopes.{scope_of}
 use Rattle.rt_tree.specs.Modules.{is_here}
 use Rattle.rt_tree.specs.Stored as s
 use Rattle.rt_tree.specs.Stored.{System, HasBrick, StandsFor, brick, module_of}
-use Rattle.rt_work.specs.Nodes as n
-use Rattle.rt_work.specs.Nodes.{proc_in, length_in}
-use Rattle.rt_work.specs.Stores.{numbered}
-use Rattle.rt_work.specs.Task.{Env}
+use Rattle.rt_work_state.specs.Nodes as n
+use Rattle.rt_work_state.specs.Nodes.{proc_in, length_in}
+use Rattle.rt_work_state.specs.Stores.{numbered}
+use Rattle.rt_work_state.specs.Items.{Env}
 use Rattle.rt_resolve.specs.Bindings.{bound, bound_by, proc_or_none}
 use Rattle.rt_resolve.specs.Starting.{text_length}
 use Rattle.rt_resolve.specs.Systems.{Resolved, resolved, all_from, system, world, env_in, env_of, code_in, codes_in, brick_code, sort_code, procedure_code}

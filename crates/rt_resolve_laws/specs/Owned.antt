@@ -9,8 +9,8 @@ use Rattle.rt_tree_nodes.specs.declared.brick.ProcBody.{ProcBody}
 use Rattle.rt_tree_nodes.specs.declared.store.Proc.{Proc}
 use Rattle.rt_tree_nodes.specs.Scopes.{scope_of}
 use Rattle.rt_tree.specs.Stored.{System, HasBrick, StandsFor, brick, module_of}
-use Rattle.rt_work.specs.Stores.{supplied}
-use Rattle.rt_work.specs.Task.{Env}
+use Rattle.rt_work_state.specs.Stores.{supplied}
+use Rattle.rt_work_state.specs.Items.{Env}
 use Rattle.rt_resolve.specs.Bindings.{bound}
 use Rattle.rt_resolve.specs.Matching.{Matched}
 use Rattle.rt_resolve.specs.Systems.{brick_code, world}

@@ -6,7 +6,7 @@ use Rattle.rt_tree_nodes.specs.declared.store.Datum.{Datum}
 use Rattle.rt_tree_nodes.specs.declared.store.Location.{Location}
 use Rattle.rt_tree_nodes.specs.declared.store.Location.TheVariants.{Shared, Own}
 use Rattle.rt_tree.specs.Stored.{inside}
-use Rattle.rt_work.specs.Stores.{Store, origin_in, read, write, write_own}
+use Rattle.rt_work_state.specs.Stores.{Store, origin_in, read, write, write_own}
 use Rattle.rt_work.specs.Task.{same_location}
 
 -- a location leads to a datum of the store or of the task's own data: it is there, and is no record and no array

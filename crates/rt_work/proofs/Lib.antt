@@ -1,5 +1,2 @@
 mod Calls
-mod Changes
-mod Firsts
 mod Taken
-mod Sizes

@@ -2,7 +2,7 @@
 -- loop weighs where a turn of it begins, and nothing at its end, since a further turn is a jump.
 use Rattle.std.specs.Prelude.{ℕ, ◌+◌, List, [], ◌∷◌}
 use Rattle.rt_tree_nodes.specs.Tree.{Term, Get, Ref, RefRow, Count, CountRow, One, Two, Over, Apply, ApplyBy, Path, FieldOf, Elem, ElemRow, Past, Terms, NoTerm, MoreTerms, Cond, Is, Both, Either, Stmt, Keep, Put, Run, Toss, GiveBack, Switch, Inner, If, For, To, While, Seq, Done, Then, Mark}
-use Rattle.rt_work.specs.Task.{Item, Do, Eval, At, Args, Try, AndThen, OrElse, Choose, Decide, CountFor, CountTo}
+use Rattle.rt_work_state.specs.Items.{Item, Do, Eval, At, Args, Try, AndThen, OrElse, Choose, Decide, CountFor, CountTo}
 
 abbrev mutual
   pub weight : Term → ℕ

@@ -1,20 +1,20 @@
 //! Tests, loops, labels and ends: what they leave to be done.
 
 ghost use Rattle.std.specs.Prelude.{◌≡◌, ◌+◌, ◌-◌, ◌<◌, ◌≤◌, suc, IfOk, OnOk, ◌∷◌, slice_get, slice_set};
+ghost use Rattle.rt_work_state.specs.Items as state;
 ghost use Rattle.rt_work.specs.Task as task;
-ghost use Rattle.rt_work.specs.Nodes as n;
+ghost use Rattle.rt_work_state.specs.Nodes as n;
+ghost use Rattle.rt_work.specs.Steps as steps;
 ghost use Rattle.rt_tree_nodes.specs.Tree.{Term};
-ghost use Rattle.rt_work.specs.declared.scene.Env.{Env};
+ghost use Rattle.rt_work_state.specs.declared.scene.Env.{Env};
 
-use crate::node::{CondNode, LabelsNode, SeqNode};
 use crate::numbers::{holds, turns, turns_to};
-use crate::request::Request;
-use crate::scene::{Item, Next, Scene};
 use crate::trees::{Done, give, lacks};
 use crate::values::{any, truth, word};
 use rt_rules::Svc;
 use rt_tree::{Datum, Location, Origin, Rel};
 use rt_words::{Memory, wrap_add};
+use rt_work_state::{CondNode, Item, LabelsNode, Next, Request, Scene, SeqNode};
 use std::rc::Rc;
 
 // ---- tests
@@ -76,8 +76,8 @@ fn compared(relation: Rel, a: &Datum, b: &Datum) -> Option<bool>
 }
 
 pub fn compare(scene: &mut Scene, relation: Rel) -> Done
-    ensures does { IfOk result (λ o. (e : Env) (a b : Term) → n.Does e (task.Compare relation a b) scene.old scene.new o) }
-    ensures lighter { IfOk result (λ o. (a b : Term) → n.Lightens (task.Compare relation a b) scene.old scene.new o) }
+    ensures does { IfOk result (λ o. (e : Env) (a b : Term) → steps.Does e (state.Compare relation a b) scene.old scene.new o) }
+    ensures lighter { IfOk result (λ o. (a b : Term) → steps.Lightens (state.Compare relation a b) scene.old scene.new o) }
 {
     match any(scene) {
         Some(b) => match any(scene) {
@@ -92,8 +92,8 @@ pub fn compare(scene: &mut Scene, relation: Rel) -> Done
 }
 
 pub fn and_then(scene: &mut Scene, t: Rc<CondNode>) -> Done
-    ensures does { IfOk result (λ o. (e : Env) → n.Does e (task.AndThen (n.cond t.value)) scene.old scene.new o) }
-    ensures lighter { IfOk result (λ o. n.Lightens (task.AndThen (n.cond t.value)) scene.old scene.new o) }
+    ensures does { IfOk result (λ o. (e : Env) → steps.Does e (state.AndThen (n.cond t.value)) scene.old scene.new o) }
+    ensures lighter { IfOk result (λ o. steps.Lightens (state.AndThen (n.cond t.value)) scene.old scene.new o) }
 {
     match truth(scene) {
         None => lacks(),
@@ -109,8 +109,8 @@ pub fn and_then(scene: &mut Scene, t: Rc<CondNode>) -> Done
 }
 
 pub fn or_else(scene: &mut Scene, t: Rc<CondNode>) -> Done
-    ensures does { IfOk result (λ o. (e : Env) → n.Does e (task.OrElse (n.cond t.value)) scene.old scene.new o) }
-    ensures lighter { IfOk result (λ o. n.Lightens (task.OrElse (n.cond t.value)) scene.old scene.new o) }
+    ensures does { IfOk result (λ o. (e : Env) → steps.Does e (state.OrElse (n.cond t.value)) scene.old scene.new o) }
+    ensures lighter { IfOk result (λ o. steps.Lightens (state.OrElse (n.cond t.value)) scene.old scene.new o) }
 {
     match truth(scene) {
         None => lacks(),
@@ -126,8 +126,8 @@ pub fn or_else(scene: &mut Scene, t: Rc<CondNode>) -> Done
 }
 
 pub fn choose(scene: &mut Scene, a: Rc<SeqNode>, b: Rc<SeqNode>) -> Done
-    ensures does { IfOk result (λ o. (e : Env) → n.Does e (task.Choose (n.seq a.value) (n.seq b.value)) scene.old scene.new o) }
-    ensures lighter { IfOk result (λ o. n.Lightens (task.Choose (n.seq a.value) (n.seq b.value)) scene.old scene.new o) }
+    ensures does { IfOk result (λ o. (e : Env) → steps.Does e (state.Choose (n.seq a.value) (n.seq b.value)) scene.old scene.new o) }
+    ensures lighter { IfOk result (λ o. steps.Lightens (state.Choose (n.seq a.value) (n.seq b.value)) scene.old scene.new o) }
 {
     match truth(scene) {
         None => lacks(),
@@ -147,7 +147,7 @@ pub fn choose(scene: &mut Scene, a: Rc<SeqNode>, b: Rc<SeqNode>) -> Done
 
 // What stands behind a THEN, or the body of a loop, and on its end a further thing to do.
 fn then_body(scene: &mut Scene, q: Rc<SeqNode>, after: Item) -> Result<(), Memory>
-    ensures todo { OnOk result (n.items scene.new.todo ≡ task.Do (n.seq q.value) ∷ n.item after ∷ n.items scene.old.todo) }
+    ensures todo { OnOk result (n.items scene.new.todo ≡ state.Do (n.seq q.value) ∷ n.item after ∷ n.items scene.old.todo) }
     ensures values { scene.new.values ≡ scene.old.values }
     ensures locals { scene.new.locals ≡ scene.old.locals }
 {
@@ -157,8 +157,8 @@ fn then_body(scene: &mut Scene, q: Rc<SeqNode>, after: Item) -> Result<(), Memor
 }
 
 pub fn decide(scene: &mut Scene, t: Rc<CondNode>, q: Rc<SeqNode>) -> Done
-    ensures does { IfOk result (λ o. (e : Env) → n.Does e (task.Decide (n.cond t.value) (n.seq q.value)) scene.old scene.new o) }
-    ensures lighter { IfOk result (λ o. n.Lightens (task.Decide (n.cond t.value) (n.seq q.value)) scene.old scene.new o) }
+    ensures does { IfOk result (λ o. (e : Env) → steps.Does e (state.Decide (n.cond t.value) (n.seq q.value)) scene.old scene.new o) }
+    ensures lighter { IfOk result (λ o. steps.Lightens (state.Decide (n.cond t.value) (n.seq q.value)) scene.old scene.new o) }
 {
     match truth(scene) {
         None => lacks(),
@@ -175,8 +175,8 @@ pub fn decide(scene: &mut Scene, t: Rc<CondNode>, q: Rc<SeqNode>) -> Done
 }
 
 pub fn again(scene: &mut Scene, t: Rc<CondNode>, q: Rc<SeqNode>) -> Done
-    ensures does { IfOk result (λ o. (e : Env) → n.Does e (task.Again (n.cond t.value) (n.seq q.value)) scene.old scene.new o) }
-    ensures lighter { IfOk result (λ o. n.Lightens (task.Again (n.cond t.value) (n.seq q.value)) scene.old scene.new o) }
+    ensures does { IfOk result (λ o. (e : Env) → steps.Does e (state.Again (n.cond t.value) (n.seq q.value)) scene.old scene.new o) }
+    ensures lighter { IfOk result (λ o. steps.Lightens (state.Again (n.cond t.value) (n.seq q.value)) scene.old scene.new o) }
 {
     scene.todo.push(Item::Decide(t.clone()?, q))?;
     scene.todo.push(Item::Try(t))?;
@@ -186,8 +186,8 @@ pub fn again(scene: &mut Scene, t: Rc<CondNode>, q: Rc<SeqNode>) -> Done
 // The first turn of a FOR, where it has one.
 fn for_turns(scene: &mut Scene, local: u16, turns: u32, q: Rc<SeqNode>) -> Done
     requires { turns ≤ 65536 }
-    ensures does { IfOk result (λ o. (e : Env) → task.counted local turns (λ us ks. task.next (n.env e) (n.items scene.old.todo) us ks) (task.for_body (n.env e) local (n.seq q.value) (n.items scene.old.todo) (λ us ks. task.next (n.env e) (n.items scene.old.todo) us ks)) scene.old.values scene.old.locals ≡ n.onward e o scene.new.todo scene.new.values scene.new.locals) }
-    ensures lighter { IfOk result (λ o. n.Lightens (task.CountFor local (n.seq q.value)) scene.old scene.new o) }
+    ensures does { IfOk result (λ o. (e : Env) → task.counted local turns (λ us ks. task.next (n.env e) (n.items scene.old.todo) us ks) (task.for_body (n.env e) local (n.seq q.value) (n.items scene.old.todo) (λ us ks. task.next (n.env e) (n.items scene.old.todo) us ks)) scene.old.values scene.old.locals ≡ steps.onward e o scene.new.todo scene.new.values scene.new.locals) }
+    ensures lighter { IfOk result (λ o. steps.Lightens (state.CountFor local (n.seq q.value)) scene.old scene.new o) }
 {
     if turns == 0 {
         return Ok(None);
@@ -200,8 +200,8 @@ fn for_turns(scene: &mut Scene, local: u16, turns: u32, q: Rc<SeqNode>) -> Done
 
 // The first turn of a TO, where it has one.
 fn to_turns(scene: &mut Scene, local: u16, turns: u16, q: Rc<SeqNode>) -> Done
-    ensures does { IfOk result (λ o. (e : Env) → task.counted local turns (λ us ks. task.next (n.env e) (n.items scene.old.todo) us ks) (task.to_body (n.env e) local (n.seq q.value) (n.items scene.old.todo) (λ us ks. task.next (n.env e) (n.items scene.old.todo) us ks)) scene.old.values scene.old.locals ≡ n.onward e o scene.new.todo scene.new.values scene.new.locals) }
-    ensures lighter { IfOk result (λ o. n.Lightens (task.CountTo local (n.seq q.value)) scene.old scene.new o) }
+    ensures does { IfOk result (λ o. (e : Env) → task.counted local turns (λ us ks. task.next (n.env e) (n.items scene.old.todo) us ks) (task.to_body (n.env e) local (n.seq q.value) (n.items scene.old.todo) (λ us ks. task.next (n.env e) (n.items scene.old.todo) us ks)) scene.old.values scene.old.locals ≡ steps.onward e o scene.new.todo scene.new.values scene.new.locals) }
+    ensures lighter { IfOk result (λ o. steps.Lightens (state.CountTo local (n.seq q.value)) scene.old scene.new o) }
 {
     if turns == 0 {
         return Ok(None);
@@ -213,8 +213,8 @@ fn to_turns(scene: &mut Scene, local: u16, turns: u16, q: Rc<SeqNode>) -> Done
 }
 
 pub fn count_for(scene: &mut Scene, local: u16, q: Rc<SeqNode>) -> Done
-    ensures does { IfOk result (λ o. (e : Env) → n.Does e (task.CountFor local (n.seq q.value)) scene.old scene.new o) }
-    ensures lighter { IfOk result (λ o. n.Lightens (task.CountFor local (n.seq q.value)) scene.old scene.new o) }
+    ensures does { IfOk result (λ o. (e : Env) → steps.Does e (state.CountFor local (n.seq q.value)) scene.old scene.new o) }
+    ensures lighter { IfOk result (λ o. steps.Lightens (state.CountFor local (n.seq q.value)) scene.old scene.new o) }
 {
     match word(scene) {
         None => lacks(),
@@ -234,8 +234,8 @@ pub fn count_for(scene: &mut Scene, local: u16, q: Rc<SeqNode>) -> Done
 }
 
 pub fn count_to(scene: &mut Scene, local: u16, q: Rc<SeqNode>) -> Done
-    ensures does { IfOk result (λ o. (e : Env) → n.Does e (task.CountTo local (n.seq q.value)) scene.old scene.new o) }
-    ensures lighter { IfOk result (λ o. n.Lightens (task.CountTo local (n.seq q.value)) scene.old scene.new o) }
+    ensures does { IfOk result (λ o. (e : Env) → steps.Does e (state.CountTo local (n.seq q.value)) scene.old scene.new o) }
+    ensures lighter { IfOk result (λ o. steps.Lightens (state.CountTo local (n.seq q.value)) scene.old scene.new o) }
 {
     match word(scene) {
         None => lacks(),
@@ -251,7 +251,7 @@ pub fn count_to(scene: &mut Scene, local: u16, q: Rc<SeqNode>) -> Done
 fn stepped(scene: &mut Scene, local: u16)
     ensures todo { scene.new.todo ≡ scene.old.todo }
     ensures values { scene.new.values ≡ scene.old.values }
-    ensures locals { scene.new.locals ≡ task.stepped local (task.word_at scene.old.locals local) (task.word_at scene.old.locals (local + 1)) scene.old.locals }
+    ensures locals { scene.new.locals ≡ task.stepped local (state.word_at scene.old.locals local) (state.word_at scene.old.locals (local + 1)) scene.old.locals }
 {
     let value = scene.word_at(usize::from(local));
     let step = scene.word_at(usize::from(local) + 1);
@@ -263,7 +263,7 @@ fn stepped(scene: &mut Scene, local: u16)
 // A further turn begins with a jump.
 fn turn(scene: &mut Scene, local: u16, left: u16, q: Rc<SeqNode>, after: Item) -> Done
     ensures jumps { IfOk result (λ o. o ≡ Some Next.Jumps) }
-    ensures todo { OnOk result (n.items scene.new.todo ≡ task.Do (n.seq q.value) ∷ n.item after ∷ n.items scene.old.todo) }
+    ensures todo { OnOk result (n.items scene.new.todo ≡ state.Do (n.seq q.value) ∷ n.item after ∷ n.items scene.old.todo) }
     ensures values { scene.new.values ≡ scene.old.values }
     ensures locals { scene.new.locals ≡ slice_set scene.old.locals (local + 2) (Datum.Word left) }
 {
@@ -273,8 +273,8 @@ fn turn(scene: &mut Scene, local: u16, left: u16, q: Rc<SeqNode>, after: Item) -
 }
 
 pub fn turn_for(scene: &mut Scene, local: u16, q: Rc<SeqNode>) -> Done
-    ensures does { IfOk result (λ o. (e : Env) → n.Does e (task.TurnFor local (n.seq q.value)) scene.old scene.new o) }
-    ensures lighter { IfOk result (λ o. n.Lightens (task.TurnFor local (n.seq q.value)) scene.old scene.new o) }
+    ensures does { IfOk result (λ o. (e : Env) → steps.Does e (state.TurnFor local (n.seq q.value)) scene.old scene.new o) }
+    ensures lighter { IfOk result (λ o. steps.Lightens (state.TurnFor local (n.seq q.value)) scene.old scene.new o) }
 {
     match scene.word_at(usize::from(local) + 2) {
         None => lacks(),
@@ -290,8 +290,8 @@ pub fn turn_for(scene: &mut Scene, local: u16, q: Rc<SeqNode>) -> Done
 }
 
 pub fn turn_to(scene: &mut Scene, local: u16, q: Rc<SeqNode>) -> Done
-    ensures does { IfOk result (λ o. (e : Env) → n.Does e (task.TurnTo local (n.seq q.value)) scene.old scene.new o) }
-    ensures lighter { IfOk result (λ o. n.Lightens (task.TurnTo local (n.seq q.value)) scene.old scene.new o) }
+    ensures does { IfOk result (λ o. (e : Env) → steps.Does e (state.TurnTo local (n.seq q.value)) scene.old scene.new o) }
+    ensures lighter { IfOk result (λ o. steps.Lightens (state.TurnTo local (n.seq q.value)) scene.old scene.new o) }
 {
     match scene.word_at(usize::from(local) + 2) {
         None => lacks(),
@@ -324,8 +324,8 @@ fn nth_label(labels: &LabelsNode, k: u16) -> Option<u16>
 }
 
 pub fn to_label(scene: &mut Scene, labels: &LabelsNode) -> Done
-    ensures does { IfOk result (λ o. (e : Env) → n.Does e (task.ToLabel (n.labels labels.now)) scene.old scene.new o) }
-    ensures lighter { IfOk result (λ o. n.Lightens (task.ToLabel (n.labels labels.now)) scene.old scene.new o) }
+    ensures does { IfOk result (λ o. (e : Env) → steps.Does e (state.ToLabel (n.labels labels.now)) scene.old scene.new o) }
+    ensures lighter { IfOk result (λ o. steps.Lightens (state.ToLabel (n.labels labels.now)) scene.old scene.new o) }
 {
     match word(scene) {
         None => lacks(),
@@ -342,8 +342,8 @@ pub fn to_label(scene: &mut Scene, labels: &LabelsNode) -> Done
 }
 
 pub fn give_up(scene: &mut Scene) -> Done
-    ensures does { IfOk result (λ o. (e : Env) → n.Does e task.GiveUp scene.old scene.new o) }
-    ensures lighter { IfOk result (λ o. n.Lightens task.GiveUp scene.old scene.new o) }
+    ensures does { IfOk result (λ o. (e : Env) → steps.Does e state.GiveUp scene.old scene.new o) }
+    ensures lighter { IfOk result (λ o. steps.Lightens state.GiveUp scene.old scene.new o) }
 {
     match any(scene) {
         Some(v) => Ok(Some(Next::Returns(Some(v)))),
@@ -370,8 +370,8 @@ fn service(trap: u16, argument: u16) -> Request
 }
 
 pub fn serve(scene: &mut Scene, trap: u16) -> Done
-    ensures does { IfOk result (λ o. (e : Env) → n.Does e (task.Serve trap) scene.old scene.new o) }
-    ensures lighter { IfOk result (λ o. n.Lightens (task.Serve trap) scene.old scene.new o) }
+    ensures does { IfOk result (λ o. (e : Env) → steps.Does e (state.Serve trap) scene.old scene.new o) }
+    ensures lighter { IfOk result (λ o. steps.Lightens (state.Serve trap) scene.old scene.new o) }
 {
     match scene.values.pop() {
         None => Ok(Some(Next::Asks(service(trap, 0)))),

@@ -1,15 +1,14 @@
 //! The trees: what a tree leaves to be done, one level at a time.
 
 ghost use Rattle.std.specs.Prelude.{◌≡◌, ◌+◌, ◌<◌, ◌≤◌, IfOk, OnOk, ◌∷◌};
-ghost use Rattle.rt_work.specs.Task as task;
-ghost use Rattle.rt_work.specs.Nodes as n;
-ghost use Rattle.rt_work.specs.declared.scene.Env.{Env};
+ghost use Rattle.rt_work_state.specs.Items as task;
+ghost use Rattle.rt_work_state.specs.Nodes as n;
+ghost use Rattle.rt_work.specs.Steps as steps;
+ghost use Rattle.rt_work_state.specs.declared.scene.Env.{Env};
 
-use crate::copies::copy_datum;
-use crate::node::{CondNode, LabelsNode, PathNode, SeqNode, StmtNode, TermNode, TermsNode};
-use crate::scene::{Env, Item, Next, Scene};
 use rt_tree::{Datum, Location, Origin, Proc, Rel};
 use rt_words::{List, Memory};
+use rt_work_state::{CondNode, Env, Item, LabelsNode, Next, PathNode, Scene, SeqNode, StmtNode, TermNode, TermsNode, copy_datum};
 use std::alloc::Global;
 use std::rc::Rc;
 
@@ -208,8 +207,8 @@ fn enter_by_item(vs: &Rc<TermsNode>) -> Result<Item, Memory>
 
 /// Statements: the first one, with the others behind it.
 pub fn seq(scene: &mut Scene, q: &SeqNode) -> Done
-    ensures does { IfOk result (λ o. (e : Env) → n.Does e (task.Do (n.seq q.now)) scene.old scene.new o) }
-    ensures lighter { IfOk result (λ o. n.Lightens (task.Do (n.seq q.now)) scene.old scene.new o) }
+    ensures does { IfOk result (λ o. (e : Env) → steps.Does e (task.Do (n.seq q.now)) scene.old scene.new o) }
+    ensures lighter { IfOk result (λ o. steps.Lightens (task.Do (n.seq q.now)) scene.old scene.new o) }
 {
     match q {
         SeqNode::Done => Ok(None),
@@ -223,8 +222,8 @@ pub fn seq(scene: &mut Scene, q: &SeqNode) -> Done
 
 // A statement, with what is to be done after it already there.
 fn stmt(scene: &mut Scene, a: &StmtNode) -> Done
-    ensures does { IfOk result (λ o. (e : Env) → n.Begins e (n.stmt a.now) scene.old scene.new o) }
-    ensures lighter { IfOk result (λ o. n.BeginsLight (n.stmt a.now) scene.old scene.new o) }
+    ensures does { IfOk result (λ o. (e : Env) → steps.Begins e (n.stmt a.now) scene.old scene.new o) }
+    ensures lighter { IfOk result (λ o. steps.BeginsLight (n.stmt a.now) scene.old scene.new o) }
 {
     match a {
         StmtNode::Keep(i, v) => then_eval(scene, v, Item::Local(u32::from(*i))),
@@ -270,8 +269,8 @@ fn loop_from(
 
 /// A test: its answer goes on the values.
 pub fn cond(scene: &mut Scene, t: &CondNode) -> Done
-    ensures does { IfOk result (λ o. (e : Env) → n.Does e (task.Try (n.cond t.now)) scene.old scene.new o) }
-    ensures lighter { IfOk result (λ o. n.Lightens (task.Try (n.cond t.now)) scene.old scene.new o) }
+    ensures does { IfOk result (λ o. (e : Env) → steps.Does e (task.Try (n.cond t.now)) scene.old scene.new o) }
+    ensures lighter { IfOk result (λ o. steps.Lightens (task.Try (n.cond t.now)) scene.old scene.new o) }
 {
     match t {
         CondNode::Is(r, a, b) => then_both(scene, a, b, compare_item(*r, a, b)?),
@@ -333,8 +332,8 @@ fn local_at(alloc: Global, scene: &Scene, local: u16) -> Result<Datum, Memory>
 
 /// A value: it goes on the values.
 pub fn term(alloc: Global, env: &Env, scene: &mut Scene, v: &TermNode) -> Done
-    ensures does { IfOk result (λ o. n.Does env.now (task.Eval (n.term v.now)) scene.old scene.new o) }
-    ensures lighter { IfOk result (λ o. n.Lightens (task.Eval (n.term v.now)) scene.old scene.new o) }
+    ensures does { IfOk result (λ o. steps.Does env.now (task.Eval (n.term v.now)) scene.old scene.new o) }
+    ensures lighter { IfOk result (λ o. steps.Lightens (task.Eval (n.term v.now)) scene.old scene.new o) }
 {
     match v {
         TermNode::Num(k) => give(scene, Datum::Word(*k)),
@@ -362,8 +361,8 @@ pub fn term(alloc: Global, env: &Env, scene: &mut Scene, v: &TermNode) -> Done
 
 /// The arguments of a call, one after the other.
 pub fn args(scene: &mut Scene, vs: &TermsNode) -> Done
-    ensures does { IfOk result (λ o. (e : Env) → n.Does e (task.Args (n.terms vs.now)) scene.old scene.new o) }
-    ensures lighter { IfOk result (λ o. n.Lightens (task.Args (n.terms vs.now)) scene.old scene.new o) }
+    ensures does { IfOk result (λ o. (e : Env) → steps.Does e (task.Args (n.terms vs.now)) scene.old scene.new o) }
+    ensures lighter { IfOk result (λ o. steps.Lightens (task.Args (n.terms vs.now)) scene.old scene.new o) }
 {
     match vs {
         TermsNode::NoTerm => Ok(None),
@@ -373,8 +372,8 @@ pub fn args(scene: &mut Scene, vs: &TermsNode) -> Done
 
 /// A place: it goes on the values.
 pub fn path(alloc: Global, env: &Env, scene: &mut Scene, p: &PathNode) -> Done
-    ensures does { IfOk result (λ o. n.Does env.now (task.At (n.path p.now)) scene.old scene.new o) }
-    ensures lighter { IfOk result (λ o. n.Lightens (task.At (n.path p.now)) scene.old scene.new o) }
+    ensures does { IfOk result (λ o. steps.Does env.now (task.At (n.path p.now)) scene.old scene.new o) }
+    ensures lighter { IfOk result (λ o. steps.Lightens (task.At (n.path p.now)) scene.old scene.new o) }
 {
     match p {
         PathNode::ItemAt(b, i) => {

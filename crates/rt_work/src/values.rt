@@ -1,23 +1,24 @@
 //! What is done to the values of an activation, once its trees have left it to be done.
 
 ghost use Rattle.std.specs.Prelude.{◌≡◌, ◌+◌, ◌<◌, IfOk, OnOk, ◌∷◌, [], ◌++◌, Some, None};
+ghost use Rattle.rt_work_state.specs.Items as state;
 ghost use Rattle.rt_work.specs.Task as task;
-ghost use Rattle.rt_work.specs.Stores as stores;
-ghost use Rattle.rt_work.specs.Nodes as n;
+ghost use Rattle.rt_work_state.specs.Stores as stores;
+ghost use Rattle.rt_work_state.specs.Nodes as n;
+ghost use Rattle.rt_work.specs.Steps as steps;
 ghost use Rattle.rt_tree_nodes.specs.Tree.{Path, Term};
-ghost use Rattle.rt_work.specs.declared.scene.Env.{Env};
+ghost use Rattle.rt_work_state.specs.declared.scene.Env.{Env};
 
-use crate::node::TermsNode;
 use crate::numbers::{Share, divided, one_of, two_of};
-use crate::scene::{Env, Item, Next, Scene};
 use crate::trees::{Done, brick_at, give, lacks};
 use rt_tree::{Datum, Location, Op1, Op2, Proc};
 use rt_words::{List, Memory};
+use rt_work_state::{Env, Item, Next, Scene, TermsNode};
 use std::alloc::Global;
 
 /// The last value, where it is a word.
 pub fn word(scene: &mut Scene) -> Option<u16>
-    ensures value { task.word_on scene.old.values ≡ n.taken_off result scene.new.values }
+    ensures value { task.word_on scene.old.values ≡ steps.taken_off result scene.new.values }
     ensures todo { scene.new.todo ≡ scene.old.todo }
     ensures locals { scene.new.locals ≡ scene.old.locals }
 {
@@ -29,7 +30,7 @@ pub fn word(scene: &mut Scene) -> Option<u16>
 
 /// The last value, where it is a place.
 pub fn place(scene: &mut Scene) -> Option<Location>
-    ensures value { task.place_on scene.old.values ≡ n.taken_off result scene.new.values }
+    ensures value { task.place_on scene.old.values ≡ steps.taken_off result scene.new.values }
     ensures todo { scene.new.todo ≡ scene.old.todo }
     ensures locals { scene.new.locals ≡ scene.old.locals }
 {
@@ -41,7 +42,7 @@ pub fn place(scene: &mut Scene) -> Option<Location>
 
 // The last value, where it is a procedure.
 fn proc(scene: &mut Scene) -> Option<Proc>
-    ensures value { task.proc_on scene.old.values ≡ n.taken_off result scene.new.values }
+    ensures value { task.proc_on scene.old.values ≡ steps.taken_off result scene.new.values }
     ensures todo { scene.new.todo ≡ scene.old.todo }
     ensures locals { scene.new.locals ≡ scene.old.locals }
 {
@@ -53,7 +54,7 @@ fn proc(scene: &mut Scene) -> Option<Proc>
 
 /// The last value, where it is the answer of a test.
 pub fn truth(scene: &mut Scene) -> Option<bool>
-    ensures value { task.truth_on scene.old.values ≡ n.taken_off result scene.new.values }
+    ensures value { task.truth_on scene.old.values ≡ steps.taken_off result scene.new.values }
     ensures todo { scene.new.todo ≡ scene.old.todo }
     ensures locals { scene.new.locals ≡ scene.old.locals }
 {
@@ -65,7 +66,7 @@ pub fn truth(scene: &mut Scene) -> Option<bool>
 
 // The last value, where it is the row of an array.
 fn row(scene: &mut Scene) -> Option<(Location, u16)>
-    ensures value { task.row_on scene.old.values ≡ n.taken_off result scene.new.values }
+    ensures value { task.row_on scene.old.values ≡ steps.taken_off result scene.new.values }
     ensures todo { scene.new.todo ≡ scene.old.todo }
     ensures locals { scene.new.locals ≡ scene.old.locals }
 {
@@ -77,7 +78,7 @@ fn row(scene: &mut Scene) -> Option<(Location, u16)>
 
 /// The last value.
 pub fn any(scene: &mut Scene) -> Option<Datum>
-    ensures value { task.any_on scene.old.values ≡ n.taken_off result scene.new.values }
+    ensures value { task.any_on scene.old.values ≡ steps.taken_off result scene.new.values }
     ensures todo { scene.new.todo ≡ scene.old.todo }
     ensures locals { scene.new.locals ≡ scene.old.locals }
 {
@@ -85,8 +86,8 @@ pub fn any(scene: &mut Scene) -> Option<Datum>
 }
 
 pub fn fetch(scene: &mut Scene) -> Done
-    ensures does { IfOk result (λ o. (e : Env) → n.Does e task.Fetch scene.old scene.new o) }
-    ensures lighter { IfOk result (λ o. n.Lightens task.Fetch scene.old scene.new o) }
+    ensures does { IfOk result (λ o. (e : Env) → steps.Does e state.Fetch scene.old scene.new o) }
+    ensures lighter { IfOk result (λ o. steps.Lightens state.Fetch scene.old scene.new o) }
 {
     match place(scene) {
         Some(p) => Ok(Some(Next::Reads(p))),
@@ -108,8 +109,8 @@ fn deeper(location: Location, k: u16) -> Result<Location, Memory>
 }
 
 pub fn into(scene: &mut Scene, k: u16) -> Done
-    ensures does { IfOk result (λ o. (e : Env) (p : Path) → n.Does e (task.Into p k) scene.old scene.new o) }
-    ensures lighter { IfOk result (λ o. (p : Path) → n.Lightens (task.Into p k) scene.old scene.new o) }
+    ensures does { IfOk result (λ o. (e : Env) (p : Path) → steps.Does e (state.Into p k) scene.old scene.new o) }
+    ensures lighter { IfOk result (λ o. (p : Path) → steps.Lightens (state.Into p k) scene.old scene.new o) }
 {
     match place(scene) {
         Some(p) => {
@@ -122,7 +123,7 @@ pub fn into(scene: &mut Scene, k: u16) -> Done
 
 // The place of an element of an array of `length` elements, or error 1.
 fn picked(scene: &mut Scene, array: Location, subscript: u16, length: u16) -> Done
-    ensures does { IfOk result (λ o. (e : Env) → task.picked (λ us ks. task.next (n.env e) (n.items scene.old.todo) us ks) array subscript length scene.old.values scene.old.locals ≡ n.onward e o scene.new.todo scene.new.values scene.new.locals) }
+    ensures does { IfOk result (λ o. (e : Env) → task.picked (λ us ks. task.next (n.env e) (n.items scene.old.todo) us ks) array subscript length scene.old.values scene.old.locals ≡ steps.onward e o scene.new.todo scene.new.values scene.new.locals) }
     ensures todo { IfOk result (λ o. o ≡ None → scene.new.todo ≡ scene.old.todo) }
 {
     if 1 <= subscript && subscript <= length {
@@ -134,8 +135,8 @@ fn picked(scene: &mut Scene, array: Location, subscript: u16, length: u16) -> Do
 }
 
 pub fn pick(scene: &mut Scene, length: u16) -> Done
-    ensures does { IfOk result (λ o. (e : Env) (p : Path) → n.Does e (task.Pick p length) scene.old scene.new o) }
-    ensures lighter { IfOk result (λ o. (p : Path) → n.Lightens (task.Pick p length) scene.old scene.new o) }
+    ensures does { IfOk result (λ o. (e : Env) (p : Path) → steps.Does e (state.Pick p length) scene.old scene.new o) }
+    ensures lighter { IfOk result (λ o. (p : Path) → steps.Lightens (state.Pick p length) scene.old scene.new o) }
 {
     match word(scene) {
         Some(subscript) => match place(scene) {
@@ -147,8 +148,8 @@ pub fn pick(scene: &mut Scene, length: u16) -> Done
 }
 
 pub fn pick_row(scene: &mut Scene) -> Done
-    ensures does { IfOk result (λ o. (e : Env) → n.Does e task.PickRow scene.old scene.new o) }
-    ensures lighter { IfOk result (λ o. n.Lightens task.PickRow scene.old scene.new o) }
+    ensures does { IfOk result (λ o. (e : Env) → steps.Does e state.PickRow scene.old scene.new o) }
+    ensures lighter { IfOk result (λ o. steps.Lightens state.PickRow scene.old scene.new o) }
 {
     match word(scene) {
         Some(subscript) => match row(scene) {
@@ -160,8 +161,8 @@ pub fn pick_row(scene: &mut Scene) -> Done
 }
 
 pub fn span(scene: &mut Scene, length: u16) -> Done
-    ensures does { IfOk result (λ o. (e : Env) → n.Does e (task.Span length) scene.old scene.new o) }
-    ensures lighter { IfOk result (λ o. n.Lightens (task.Span length) scene.old scene.new o) }
+    ensures does { IfOk result (λ o. (e : Env) → steps.Does e (state.Span length) scene.old scene.new o) }
+    ensures lighter { IfOk result (λ o. steps.Lightens (state.Span length) scene.old scene.new o) }
 {
     match place(scene) {
         Some(p) => give(scene, Datum::Row(p, length)),
@@ -170,8 +171,8 @@ pub fn span(scene: &mut Scene, length: u16) -> Done
 }
 
 pub fn tell(scene: &mut Scene, number: u16) -> Done
-    ensures does { IfOk result (λ o. (e : Env) → n.Does e (task.Tell number) scene.old scene.new o) }
-    ensures lighter { IfOk result (λ o. n.Lightens (task.Tell number) scene.old scene.new o) }
+    ensures does { IfOk result (λ o. (e : Env) → steps.Does e (state.Tell number) scene.old scene.new o) }
+    ensures lighter { IfOk result (λ o. steps.Lightens (state.Tell number) scene.old scene.new o) }
 {
     match place(scene) {
         Some(_) => give(scene, Datum::Word(number)),
@@ -180,8 +181,8 @@ pub fn tell(scene: &mut Scene, number: u16) -> Done
 }
 
 pub fn length_of(scene: &mut Scene) -> Done
-    ensures does { IfOk result (λ o. (e : Env) → n.Does e task.Length scene.old scene.new o) }
-    ensures lighter { IfOk result (λ o. n.Lightens task.Length scene.old scene.new o) }
+    ensures does { IfOk result (λ o. (e : Env) → steps.Does e state.Length scene.old scene.new o) }
+    ensures lighter { IfOk result (λ o. steps.Lightens state.Length scene.old scene.new o) }
 {
     match row(scene) {
         Some((_, length)) => give(scene, Datum::Word(length)),
@@ -190,8 +191,8 @@ pub fn length_of(scene: &mut Scene) -> Done
 }
 
 pub fn alter(scene: &mut Scene, operator: Op1) -> Done
-    ensures does { IfOk result (λ o. (e : Env) → n.Does e (task.Alter operator) scene.old scene.new o) }
-    ensures lighter { IfOk result (λ o. n.Lightens (task.Alter operator) scene.old scene.new o) }
+    ensures does { IfOk result (λ o. (e : Env) → steps.Does e (state.Alter operator) scene.old scene.new o) }
+    ensures lighter { IfOk result (λ o. steps.Lightens (state.Alter operator) scene.old scene.new o) }
 {
     match word(scene) {
         Some(a) => give(scene, Datum::Word(one_of(operator, a))),
@@ -200,8 +201,8 @@ pub fn alter(scene: &mut Scene, operator: Op1) -> Done
 }
 
 pub fn merge(scene: &mut Scene, operator: Op2) -> Done
-    ensures does { IfOk result (λ o. (e : Env) → n.Does e (task.Merge operator) scene.old scene.new o) }
-    ensures lighter { IfOk result (λ o. n.Lightens (task.Merge operator) scene.old scene.new o) }
+    ensures does { IfOk result (λ o. (e : Env) → steps.Does e (state.Merge operator) scene.old scene.new o) }
+    ensures lighter { IfOk result (λ o. steps.Lightens (state.Merge operator) scene.old scene.new o) }
 {
     match word(scene) {
         Some(b) => match word(scene) {
@@ -217,7 +218,7 @@ pub fn merge(scene: &mut Scene, operator: Op2) -> Done
 
 // What a division gives; where it fails, ERP is read and called, and then the value is 0.
 fn shared(scene: &mut Scene, share: Share) -> Done
-    ensures does { IfOk result (λ o. (e : Env) → task.share_then share (n.items scene.old.todo) (λ us ks. task.next (n.env e) (n.items scene.old.todo) us ks) scene.old.values scene.old.locals ≡ n.onward e o scene.new.todo scene.new.values scene.new.locals) }
+    ensures does { IfOk result (λ o. (e : Env) → task.share_then share (n.items scene.old.todo) (λ us ks. task.next (n.env e) (n.items scene.old.todo) us ks) scene.old.values scene.old.locals ≡ steps.onward e o scene.new.todo scene.new.values scene.new.locals) }
     ensures todo { IfOk result (λ o. o ≡ None → scene.new.todo ≡ scene.old.todo) }
 {
     match share {
@@ -231,8 +232,8 @@ fn shared(scene: &mut Scene, share: Share) -> Done
 }
 
 pub fn split(scene: &mut Scene, operator: Op2) -> Done
-    ensures does { IfOk result (λ o. (e : Env) → n.Does e (task.Split operator) scene.old scene.new o) }
-    ensures lighter { IfOk result (λ o. n.Lightens (task.Split operator) scene.old scene.new o) }
+    ensures does { IfOk result (λ o. (e : Env) → steps.Does e (state.Split operator) scene.old scene.new o) }
+    ensures lighter { IfOk result (λ o. steps.Lightens (state.Split operator) scene.old scene.new o) }
 {
     match word(scene) {
         Some(b) => match word(scene) {
@@ -244,8 +245,8 @@ pub fn split(scene: &mut Scene, operator: Op2) -> Done
 }
 
 pub fn report(alloc: Global, scene: &mut Scene, error: u16) -> Done
-    ensures does { IfOk result (λ o. (e : Env) → n.Does e (task.Report error) scene.old scene.new o) }
-    ensures lighter { IfOk result (λ o. n.Lightens (task.Report error) scene.old scene.new o) }
+    ensures does { IfOk result (λ o. (e : Env) → steps.Does e (state.Report error) scene.old scene.new o) }
+    ensures lighter { IfOk result (λ o. steps.Lightens (state.Report error) scene.old scene.new o) }
 {
     match proc(scene) {
         Some(f) => {
@@ -259,8 +260,8 @@ pub fn report(alloc: Global, scene: &mut Scene, error: u16) -> Done
 
 // The last values, as many as these arguments are, the first of them in front.
 fn taken(alloc: Global, scene: &mut Scene, vs: &TermsNode) -> Result<List<Datum>, Memory>
-    ensures args { IfOk result (λ xs. xs ≡ task.taken (task.how_many (n.terms vs.now)) [] scene.old.values) }
-    ensures values { OnOk result (scene.new.values ≡ task.left (task.how_many (n.terms vs.now)) scene.old.values) }
+    ensures args { IfOk result (λ xs. xs ≡ task.taken (state.how_many (n.terms vs.now)) [] scene.old.values) }
+    ensures values { OnOk result (scene.new.values ≡ task.left (state.how_many (n.terms vs.now)) scene.old.values) }
     ensures todo { scene.new.todo ≡ scene.old.todo }
     ensures locals { scene.new.locals ≡ scene.old.locals }
 {
@@ -278,16 +279,16 @@ fn taken(alloc: Global, scene: &mut Scene, vs: &TermsNode) -> Result<List<Datum>
 }
 
 pub fn enter(alloc: Global, env: &Env, scene: &mut Scene, brick: u16, vs: &TermsNode) -> Done
-    ensures does { IfOk result (λ o. n.Does env.now (task.Enter brick (task.how_many (n.terms vs.now))) scene.old scene.new o) }
-    ensures lighter { IfOk result (λ o. n.Lightens (task.Enter brick (task.how_many (n.terms vs.now))) scene.old scene.new o) }
+    ensures does { IfOk result (λ o. steps.Does env.now (state.Enter brick (state.how_many (n.terms vs.now))) scene.old scene.new o) }
+    ensures lighter { IfOk result (λ o. steps.Lightens (state.Enter brick (state.how_many (n.terms vs.now))) scene.old scene.new o) }
 {
     let args = taken(alloc, scene, vs)?;
     Ok(Some(Next::Calls(brick_at(env, brick), args)))
 }
 
 pub fn enter_by(alloc: Global, scene: &mut Scene, vs: &TermsNode) -> Done
-    ensures does { IfOk result (λ o. (e : Env) → n.Does e (task.EnterBy (task.how_many (n.terms vs.now))) scene.old scene.new o) }
-    ensures lighter { IfOk result (λ o. n.Lightens (task.EnterBy (task.how_many (n.terms vs.now))) scene.old scene.new o) }
+    ensures does { IfOk result (λ o. (e : Env) → steps.Does e (state.EnterBy (state.how_many (n.terms vs.now))) scene.old scene.new o) }
+    ensures lighter { IfOk result (λ o. steps.Lightens (state.EnterBy (state.how_many (n.terms vs.now))) scene.old scene.new o) }
 {
     let args = taken(alloc, scene, vs)?;
     match proc(scene) {
@@ -297,8 +298,8 @@ pub fn enter_by(alloc: Global, scene: &mut Scene, vs: &TermsNode) -> Done
 }
 
 pub fn local(scene: &mut Scene, local: u32) -> Done
-    ensures does { IfOk result (λ o. (e : Env) → n.Does e (task.Local local) scene.old scene.new o) }
-    ensures lighter { IfOk result (λ o. n.Lightens (task.Local local) scene.old scene.new o) }
+    ensures does { IfOk result (λ o. (e : Env) → steps.Does e (state.Local local) scene.old scene.new o) }
+    ensures lighter { IfOk result (λ o. steps.Lightens (state.Local local) scene.old scene.new o) }
 {
     match any(scene) {
         Some(v) => {
@@ -310,8 +311,8 @@ pub fn local(scene: &mut Scene, local: u32) -> Done
 }
 
 pub fn save(scene: &mut Scene) -> Done
-    ensures does { IfOk result (λ o. (e : Env) (p : Path) (v : Term) → n.Does e (task.Save p v) scene.old scene.new o) }
-    ensures lighter { IfOk result (λ o. (p : Path) (v : Term) → n.Lightens (task.Save p v) scene.old scene.new o) }
+    ensures does { IfOk result (λ o. (e : Env) (p : Path) (v : Term) → steps.Does e (state.Save p v) scene.old scene.new o) }
+    ensures lighter { IfOk result (λ o. (p : Path) (v : Term) → steps.Lightens (state.Save p v) scene.old scene.new o) }
 {
     match any(scene) {
         Some(v) => match place(scene) {
@@ -323,8 +324,8 @@ pub fn save(scene: &mut Scene) -> Done
 }
 
 pub fn toss(scene: &mut Scene) -> Done
-    ensures does { IfOk result (λ o. (e : Env) → n.Does e task.Drop scene.old scene.new o) }
-    ensures lighter { IfOk result (λ o. n.Lightens task.Drop scene.old scene.new o) }
+    ensures does { IfOk result (λ o. (e : Env) → steps.Does e state.Drop scene.old scene.new o) }
+    ensures lighter { IfOk result (λ o. steps.Lightens state.Drop scene.old scene.new o) }
 {
     match any(scene) {
         Some(_) => Ok(None),

@@ -2,13 +2,13 @@
 
 ghost use Rattle.std.specs.Prelude.{◌≡◌, ◌<◌, IfOk};
 ghost use Rattle.rt_work.specs.Task as task;
-ghost use Rattle.rt_work.specs.Nodes as n;
+ghost use Rattle.rt_work_state.specs.Nodes as n;
+ghost use Rattle.rt_work.specs.Steps as steps;
 
 use crate::control::{
     again, and_then, choose, compare, count_for, count_to, decide, give_up, or_else, serve,
     to_label, turn_for, turn_to,
 };
-use crate::scene::{Env, Item, Next, Scene};
 use crate::trees::{Done, args, cond, give, path, seq, term};
 use crate::values::{
     alter, enter, enter_by, fetch, into, length_of, local, merge, pick, pick_row, report, save,
@@ -16,11 +16,12 @@ use crate::values::{
 };
 use rt_tree::Datum;
 use rt_words::{List, Memory};
+use rt_work_state::{Env, Item, Next, Scene};
 use std::alloc::Global;
 
 /// The next visible step, after the invisible work before it.
 pub fn advance(alloc: Global, env: &Env, scene: &mut Scene) -> Result<Next, Memory>
-    ensures { IfOk result (λ o. n.Advances env.now scene.old scene.new o) }
+    ensures { IfOk result (λ o. steps.Advances env.now scene.old scene.new o) }
 {
     while let Some(item) = scene.todo.pop() {
         if let Some(next) = one(alloc, env, scene, item)? {
@@ -32,8 +33,8 @@ pub fn advance(alloc: Global, env: &Env, scene: &mut Scene) -> Result<Next, Memo
 
 // Does one thing. The answer is the next visible step, where this thing is one.
 fn one(alloc: Global, env: &Env, scene: &mut Scene, item: Item) -> Done
-    ensures does { IfOk result (λ o. n.Does env.now (n.item item) scene.old scene.new o) }
-    ensures lighter { IfOk result (λ o. n.Lightens (n.item item) scene.old scene.new o) }
+    ensures does { IfOk result (λ o. steps.Does env.now (n.item item) scene.old scene.new o) }
+    ensures lighter { IfOk result (λ o. steps.Lightens (n.item item) scene.old scene.new o) }
 {
     match item {
         Item::Do(q) => seq(scene, &q),

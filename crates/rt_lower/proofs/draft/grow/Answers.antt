@@ -1,6 +1,6 @@
 use Rattle.std.proofs.Common.{ap, ◌∙◌, ◌<◌, length, arith}
 use Rattle.rt_lower.specs.Drafts.{grown}
-use Rattle.rt_lower.proofs.Listing.{grown_more}
+use Rattle.rt_lower.proofs.Growing.{grown_more}
 use Rattle.rt_lower.proofs.draft.grow.Goals as goal
 
 pub loop-labels-preserved : goal.loop-labels-preserved

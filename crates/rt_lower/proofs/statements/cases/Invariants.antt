@@ -1,5 +1,5 @@
 use Rattle.std.proofs.Common.{◌≡◌, ◌++◌, map}
-use Rattle.rt_work.specs.Nodes as n
+use Rattle.rt_work_state.specs.Nodes as n
 use Rattle.rt_lower.specs.declared.draft.Piece.TheVariants as piece
 use Rattle.rt_lower.proofs.statements.cases.Given as goal
 

@@ -1,6 +1,6 @@
 use Rattle.std.proofs.Common.{◌≡◌, ◌+◌, ◌*◌, ◌≤◌, ◌++◌}
-use Rattle.rt_work.specs.Nodes as n
-use Rattle.rt_work.specs.Task.{how_many}
+use Rattle.rt_work_state.specs.Nodes as n
+use Rattle.rt_work_state.specs.Items.{how_many}
 use Rattle.rt_lower.specs.Values as values
 use Rattle.rt_lower.specs.Drafts.{whole}
 use Rattle.rt_lower.proofs.Sizes.{size_t, size_p, size_ts}

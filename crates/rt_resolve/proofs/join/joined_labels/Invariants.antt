@@ -1,5 +1,5 @@
 use Rattle.std.proofs.Common.{◌≡◌, ◌++◌, length}
-use Rattle.rt_work.specs.Nodes as n
+use Rattle.rt_work_state.specs.Nodes as n
 use Rattle.rt_resolve.proofs.join.joined_labels.Given as goal
 
 abbrev pub invariant-loop-label : goal.invariant-loop-label

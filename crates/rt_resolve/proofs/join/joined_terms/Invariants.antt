@@ -1,6 +1,6 @@
 use Rattle.std.proofs.Common.{◌≡◌, map, length}
 use Rattle.rt_tree_nodes.specs.Tree.{NoTerm, MoreTerms}
-use Rattle.rt_work.specs.Nodes as n
+use Rattle.rt_work_state.specs.Nodes as n
 use Rattle.rt_resolve.specs.Trees.{build}
 use Rattle.rt_resolve.proofs.join.joined_terms.Given as goal
 

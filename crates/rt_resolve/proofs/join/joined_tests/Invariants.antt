@@ -1,5 +1,5 @@
 use Rattle.std.proofs.Common.{◌≡◌, map, length}
-use Rattle.rt_work.specs.Nodes as n
+use Rattle.rt_work_state.specs.Nodes as n
 use Rattle.rt_resolve.specs.Trees.{build, joining, joined_tests}
 use Rattle.rt_resolve.proofs.join.joined_tests.Given as goal
 

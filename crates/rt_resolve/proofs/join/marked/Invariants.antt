@@ -1,6 +1,6 @@
 use Rattle.std.proofs.Common.{◌≡◌, length}
 use Rattle.rt_tree.specs.Statements.{marks}
-use Rattle.rt_work.specs.Nodes as n
+use Rattle.rt_work_state.specs.Nodes as n
 use Rattle.rt_resolve.proofs.join.marked.Given as goal
 
 abbrev pub invariant-loop-label : goal.invariant-loop-label

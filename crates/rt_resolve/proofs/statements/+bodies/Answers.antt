@@ -1,7 +1,7 @@
 use Rattle.std.proofs.Common.{◌≡◌, ◌∙◌, IfOk, ap, subst}
 use Rattle.rt_tree_nodes.specs.Code as seen
 use Rattle.rt_tree_nodes.specs.Tree.{Done}
-use Rattle.rt_work.specs.Nodes as n
+use Rattle.rt_work_state.specs.Nodes as n
 use Rattle.rt_resolve.specs.Trees.{build, after_row}
 use Rattle.rt_resolve.proofs.Built.{rows_built}
 use Rattle.rt_resolve.proofs.statements.+bodies.Goals as goal

@@ -1,6 +1,6 @@
 use Rattle.std.proofs.Common.{◌≡◌, IfOk, subst}
 use Rattle.rt_tree_nodes.specs.Code as seen
-use Rattle.rt_work.specs.Nodes as n
+use Rattle.rt_work_state.specs.Nodes as n
 use Rattle.rt_resolve.proofs.Built.{and_tree, or_tree}
 use Rattle.rt_resolve.proofs.statements.+tests.Goals as goal
 

@@ -1,6 +1,6 @@
 use Rattle.std.proofs.Common.{◌≡◌, map, take}
 use Rattle.rt_tree_nodes.specs.Code as seen
-use Rattle.rt_work.specs.Nodes as n
+use Rattle.rt_work_state.specs.Nodes as n
 use Rattle.rt_resolve.specs.Trees.{start_statement}
 use Rattle.rt_resolve.proofs.statements.starts.Given as goal
 

@@ -1,7 +1,7 @@
 use Rattle.std.proofs.Common.{◌≡◌, ◌∙◌, IfOk, ap, subst}
 use Rattle.rt_tree_nodes.specs.Code as seen
 use Rattle.rt_tree_nodes.specs.Tree.{NoTerm, MoreTerms}
-use Rattle.rt_work.specs.Nodes as n
+use Rattle.rt_work_state.specs.Nodes as n
 use Rattle.rt_resolve.specs.Trees.{build}
 use Rattle.rt_resolve.proofs.Built.{arguments_built}
 use Rattle.rt_resolve.proofs.values.+values.Goals as goal

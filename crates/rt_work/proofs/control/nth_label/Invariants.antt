@@ -1,6 +1,6 @@
 use Rattle.std.proofs.Common.{◌≡◌}
 use Rattle.std.specs.Prelude.{slice_get}
-use Rattle.rt_work.specs.Nodes as n
+use Rattle.rt_work_state.specs.Nodes as n
 use Rattle.rt_work.proofs.control.nth_label.Given as goal
 
 abbrev pub invariant-loop-rest : goal.invariant-loop-rest

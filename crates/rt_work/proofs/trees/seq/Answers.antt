@@ -1,6 +1,7 @@
-use Rattle.rt_work.specs.Nodes.{Does, seq}
-use Rattle.rt_work.specs.Task.{Do}
-use Rattle.rt_work.specs.declared.scene.Env.{Env}
+use Rattle.rt_work_state.specs.Nodes.{seq}
+use Rattle.rt_work.specs.Steps.{Does}
+use Rattle.rt_work_state.specs.Items.{Do}
+use Rattle.rt_work_state.specs.declared.scene.Env.{Env}
 use Rattle.rt_work.proofs.Calls.{after_ok}
 use Rattle.rt_work.proofs.trees.seq.Goals as goal
 

@@ -1,6 +1,6 @@
 use Rattle.std.proofs.Common.{sym}
-use Rattle.rt_work.specs.Task.{how_many}
-use Rattle.rt_work.specs.Nodes.{terms}
+use Rattle.rt_work_state.specs.Items.{how_many}
+use Rattle.rt_work_state.specs.Nodes.{terms}
 use Rattle.rt_work.proofs.Taken.{taken_more}
 use Rattle.rt_work.proofs.values.+taken.Goals as goal
 

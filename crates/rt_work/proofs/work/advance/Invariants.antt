@@ -1,6 +1,6 @@
 use Rattle.std.proofs.Common.{◌≡◌}
 use Rattle.rt_work.specs.Task as task
-use Rattle.rt_work.specs.Nodes as n
+use Rattle.rt_work_state.specs.Nodes as n
 use Rattle.rt_work.specs.Weights.{weights}
 use Rattle.rt_work.proofs.work.advance.Given as goal
 

@@ -1,4 +1,5 @@
-use Rattle.rt_work.specs.Nodes.{Does, Lightens, item, path, term}
+use Rattle.rt_work_state.specs.Nodes.{item, path, term}
+use Rattle.rt_work.specs.Steps.{Does, Lightens}
 use Rattle.rt_work.proofs.Calls.{after_ok}
 use Rattle.rt_work.proofs.work.one.Goals as goal
 

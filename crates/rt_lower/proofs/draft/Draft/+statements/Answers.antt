@@ -1,5 +1,5 @@
 use Rattle.std.proofs.Common.{◌≡◌, ◌<◌, OnOk, ap, sym, ◌∙◌, subst, arith}
-use Rattle.rt_work.specs.Nodes as n
+use Rattle.rt_work_state.specs.Nodes as n
 use Rattle.rt_lower.specs.declared.draft.Draft.{Draft}
 use Rattle.rt_lower.specs.Drafts as drafts
 use Rattle.rt_lower.proofs.Alone.{is_alone, not_alone}

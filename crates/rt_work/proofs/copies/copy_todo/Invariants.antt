@@ -1,7 +1,0 @@
-use Rattle.std.proofs.Common.{◌≡◌, take}
-use mathlib.Core.List.{reverse}
-use Rattle.rt_work.specs.Nodes.{items}
-use Rattle.rt_work.proofs.copies.copy_todo.Given as goal
-
-abbrev pub invariant-loop-item : goal.invariant-loop-item
-invariant-loop-item l = items l.copy ≡ items (reverse (take l.item-index l.from))

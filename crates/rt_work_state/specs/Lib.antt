@@ -1,0 +1,4 @@
+pub mod Stores
+pub mod Items
+pub mod Nodes
+pub mod Labels
