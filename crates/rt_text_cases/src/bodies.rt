@@ -1,13 +1,12 @@
 //! Bodies: the trees that the grammar gives them, and their strings.
 
-use crate::case::{Case, text_with};
-use crate::expand::number;
 use crate::expressions::{any_expression, chain, condition, expression, name, names, open};
-use crate::stop::Stop;
+use crate::texts::items_in;
 use crate::written::mode;
 use rt_bricks::{Declaration, Module, ProcedureBrick, parse_module};
+use rt_case_texts::{Case, Stop, number, text_with};
 use rt_grammar::Ident;
-use rt_items::{Item, items};
+use rt_items::Item;
 use rt_syntax::{
     Body, Branch, Control, Locals, Simple, Stmt, Text, add_strings, in_expr, parse_body,
 };
@@ -15,20 +14,6 @@ use rt_syntax_exprs::Expr;
 use rt_words::List;
 use std::alloc::Global;
 use std::fmt::Write;
-
-// The items of a text, or `None` with what is said of it.
-fn items_in(alloc: Global, text: &str, out: &mut String) -> Result<Option<List<Item>>, Stop> {
-    if text.len() > 4194304 {
-        return Err(Stop::Line);
-    }
-    match items(alloc, text.as_bytes()) {
-        Ok(all) => Ok(Some(all)),
-        Err(fault) => {
-            write!(out, " {fault}")?;
-            Ok(None)
-        }
-    }
-}
 
 /// Writes how many declarations and statements the body at an item of a text has, and the item behind it; or its fault.
 pub fn body(alloc: Global, case: &Case, rest: &str, out: &mut String) -> Result<(), Stop> {

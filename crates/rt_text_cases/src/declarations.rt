@@ -1,14 +1,13 @@
 //! Declarations of the grammar's trees as texts.
 
 use crate::bodies::show_body;
-use crate::expand::write_bytes;
 use crate::expressions::{name, names, open};
-use crate::stop::Stop;
 use crate::written::mode;
 use rt_bricks::{
     DataBrick, DataLine, Declaration, Fields, Import, ImportedData, ImportedProcedures,
     ImportedStacks, Parenthesized, ProcedureBrick, RecordMode, Selector, Sign, StackBrick, Start,
 };
+use rt_case_texts::{Stop, write_bytes};
 use rt_grammar::At;
 use std::fmt::Write;
 

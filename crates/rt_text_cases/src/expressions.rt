@@ -1,8 +1,7 @@
 //! Expressions and conditions of the grammar's trees as texts: each node in parentheses with its kind, the number of its first
 //! item behind `@`, and its parts in their order.
 
-use crate::expand::write_bytes;
-use crate::stop::Stop;
+use rt_case_texts::{Stop, write_bytes};
 use rt_grammar::{At, Ident};
 use rt_syntax_exprs::{Chain, Cond, Expr, Link};
 use std::fmt::Write;

@@ -1,21 +1,18 @@
 //! The module of a text, as the grammar gives it.
 
 use crate::declarations::declaration;
-use crate::expand::write_bytes;
-use crate::stop::Stop;
+use crate::texts::items_in;
 use rt_bricks::{Module, parse_module};
-use rt_items::{Item, items};
+use rt_case_texts::{Stop, write_bytes};
+use rt_items::Item;
 use std::alloc::Global;
 use std::fmt::Write;
 
 /// Writes the tree of the module of a text, or its fault.
 pub fn syntax(alloc: Global, text: &str, out: &mut String) -> Result<(), Stop> {
-    if text.len() > 4194304 {
-        return Err(Stop::Line);
-    }
-    match items(alloc, text.as_bytes()) {
-        Ok(all) => syntax_in(alloc, all.as_slice(), out),
-        Err(fault) => Ok(write!(out, " {fault}")?),
+    match items_in(alloc, text, out)? {
+        Some(all) => syntax_in(alloc, all.as_slice(), out),
+        None => Ok(()),
     }
 }
 

@@ -1,7 +1,7 @@
 //! Modes of the grammar's trees as texts.
 
 use crate::expressions::{name, open};
-use crate::stop::Stop;
+use rt_case_texts::Stop;
 use rt_syntax_exprs::WrittenMode;
 use std::fmt::Write;
 

@@ -3,10 +3,8 @@
 ghost use Rattle.std.specs.Prelude.{◌≡◌, ◌≤◌, length};
 ghost use Rattle.rt_meaning.specs.Source as source;
 
-use crate::case::Case;
-use crate::expand::{number, write_bytes};
-use crate::stop::Stop;
 use crate::systems::{System, may_start, system_of, system_with};
+use rt_case_texts::{Case, Stop, number, write_bytes};
 use rt_meaning::SourceState;
 use rt_rules::State;
 use rt_runs::{Reached, run_system, source_run};

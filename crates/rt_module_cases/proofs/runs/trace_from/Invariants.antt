@@ -1,6 +1,6 @@
 use Rattle.std.proofs.Common.{◌≡◌, ◌+◌, ◌*◌, ◌≤◌}
 use Rattle.rt_meaning.specs.Source.{state_of}
-use Rattle.rt_text_cases.proofs.runs.trace_from.Given as goal
+use Rattle.rt_module_cases.proofs.runs.trace_from.Given as goal
 
 abbrev pub invariant-loop-step : goal.invariant-loop-step
 invariant-loop-step l = record {

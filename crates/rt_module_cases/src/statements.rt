@@ -1,7 +1,7 @@
 //! Bodies and statements of typed trees as texts. Each local that has a start and each statement ends with `;`.
 
-use crate::stop::Stop;
 use crate::values::{show_place, show_test, show_value};
+use rt_case_texts::Stop;
 use rt_tree::{Body, Branch, Labelled, Stat, Value};
 use std::fmt::Write;
 

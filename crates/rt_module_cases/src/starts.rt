@@ -1,6 +1,6 @@
 //! Starts of items of data as texts.
 
-use crate::stop::Stop;
+use rt_case_texts::Stop;
 use rt_tree::DataStart;
 use std::fmt::Write;
 

@@ -1,6 +1,6 @@
 //! Faults of a text, as they are told.
 
-use crate::stop::Stop;
+use rt_case_texts::Stop;
 use rt_check::ModuleFault;
 use rt_exprs::CheckFault;
 use std::fmt::Write;

@@ -1,12 +1,10 @@
 //! Typed trees that no text gives: the tree of one text with a part of that of another, or without one of its records.
 
-use crate::case::{Case, text_with};
-use crate::expand::number;
 use crate::frames::frame_numbered;
 use crate::made::made;
 use crate::runs::trace_module;
-use crate::stop::Stop;
 use rt_bricks::{Module, parse_module};
+use rt_case_texts::{Case, Stop, number, text_with};
 use rt_check::{read_module, typed_module};
 use rt_items::{Item, items};
 use rt_tree::{Brick, BrickSort, Labelled, ModuleParts, ProcBody, TypedModule};

@@ -4,9 +4,8 @@ ghost use Rattle.std.specs.Prelude.{◌≡◌, ◌<◌, ◌≤◌, All, length, 
 ghost use Rattle.rt_meaning.specs.Roots as roots;
 ghost use Rattle.rt_resolve.specs.Systems.{IsNumbered};
 
-use crate::case::{Case, TaskLine, text_with};
 use crate::faults::tell;
-use crate::stop::Stop;
+use rt_case_texts::{Case, Stop, TaskLine, text_with};
 use rt_check::typed_module;
 use rt_meaning::SourceTask;
 use rt_resolve::are_numbered;

@@ -1,8 +1,7 @@
 //! Statements that no text has: `ERL := label`, which a text can't use, a reference of a local, and a byte that is read right
 //! behind a string.
 
-use crate::expand::number;
-use crate::stop::Stop;
+use rt_case_texts::{Stop, number};
 use rt_tree::{Body, Branch, Callee, Labelled, Place, Rel, Stat, Test, Value};
 use rt_words::{Boxed, List};
 use std::alloc::Global;

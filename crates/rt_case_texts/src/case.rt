@@ -1,6 +1,6 @@
 //! The case so far: its texts, its tasks, and the input of its console.
 
-use crate::expand::{expand, number};
+use crate::expansion::{expand, number};
 use crate::stop::Stop;
 use rt_system::library;
 use rt_words::List;
@@ -19,7 +19,7 @@ pub struct TaskLine {
 #[derive(Drop)]
 pub struct Case {
     /// Whether the lines are those of a text.
-    pub open: bool,
+    pub(crate) open: bool,
     /// The lines of the text that is open.
     text: String,
     /// The texts, in which `@` stands for the piece that a later line gives.
@@ -43,13 +43,13 @@ impl Case {
     }
 
     /// Begins a new case.
-    pub fn begin(&mut self, alloc: Global) -> Result<(), Stop> {
+    pub(crate) fn begin(&mut self, alloc: Global) -> Result<(), Stop> {
         *self = Case::new(alloc)?;
         Ok(())
     }
 
     /// A line of the text that is open.
-    pub fn line(&mut self, alloc: Global, line: &str) -> Result<(), Stop> {
+    pub(crate) fn line(&mut self, alloc: Global, line: &str) -> Result<(), Stop> {
         if line == "ENDTEXT" {
             self.open = false;
             let text = mem::replace(&mut self.text, String::new(alloc));
@@ -61,7 +61,7 @@ impl Case {
     }
 
     /// The library's text, as one more text.
-    pub fn library(&mut self, alloc: Global) -> Result<(), Stop> {
+    pub(crate) fn library(&mut self, alloc: Global) -> Result<(), Stop> {
         match str::from_utf8(library()) {
             Ok(text) => Ok(self.texts.push(String::from_str(alloc, text)?)?),
             Err(_) => Err(Stop::Line),
@@ -69,7 +69,7 @@ impl Case {
     }
 
     /// A task, from `MODULE ROOT PRIORITY`.
-    pub fn task(&mut self, alloc: Global, written: &str) -> Result<(), Stop> {
+    pub(crate) fn task(&mut self, alloc: Global, written: &str) -> Result<(), Stop> {
         let Some((module, rest)) = written.split_once(' ') else {
             return Err(Stop::Line);
         };
@@ -88,7 +88,7 @@ impl Case {
     }
 
     /// The console's input.
-    pub fn input(&mut self, alloc: Global, written: &str) -> Result<(), Stop> {
+    pub(crate) fn input(&mut self, alloc: Global, written: &str) -> Result<(), Stop> {
         self.input = String::new(alloc);
         expand(&mut self.input, written)
     }

@@ -1,6 +1,6 @@
 //! Values, places and conditions of typed trees as texts.
 
-use crate::stop::Stop;
+use rt_case_texts::Stop;
 use rt_tree::{Callee, Place, Test, Value};
 use std::fmt::Write;
 

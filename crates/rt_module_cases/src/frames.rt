@@ -1,10 +1,8 @@
 //! Frames of procedures: parameters, locals, the greatest depth, and the points where they call.
 
-use crate::case::{Case, text_with};
-use crate::expand::write_bytes;
 use crate::faults::tell;
-use crate::stop::Stop;
 use crate::systems::brick_named;
+use rt_case_texts::{Case, Stop, text_with, write_bytes};
 use rt_check::typed_module;
 use rt_frames::{CallPoint, Frame, Target, frame_of};
 use rt_tree::TypedModule;

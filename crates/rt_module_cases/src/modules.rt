@@ -1,10 +1,9 @@
 //! Typed modules as texts.
 
-use crate::expand::write_bytes;
 use crate::faults::tell;
 use crate::starts::show_starts;
 use crate::statements::show_body;
-use crate::stop::Stop;
+use rt_case_texts::{Stop, write_bytes};
 use rt_check::typed_module;
 use rt_modes::{Field, Mode, ModeTable, write_data_mode, write_mode};
 use rt_tree::{Brick, BrickSort, ProcBody, TypedModule};
