@@ -4,9 +4,9 @@ use Rattle.std.proofs.lemmas.Bool.{eqb-true, leb-true}
 use Rattle.std.proofs.lemmas.Bool.Decides.{nat_tests}
 use Rattle.rt_modes.specs.declared.mode.Field.{Field}
 use Rattle.rt_modes.specs.declared.mode.RecordDef.{RecordDef}
-use Rattle.rt_sizes.specs.Alone.{IsFirstRing}
 use Rattle.rt_sizes.specs.Capped.{counted, size_in, AreSizes}
 use Rattle.rt_sizes.specs.Containing.{Contains}
+use Rattle.rt_sizes.specs.Rings.{IsFirstRing}
 use Rattle.rt_sizes.specs.Sizes.{End, within}
 use Rattle.rt_sizes.specs.declared.size.Size.{Size}
 use Rattle.rt_sizes.specs.declared.size.Size.TheVariants as size

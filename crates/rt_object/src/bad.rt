@@ -1,8 +1,8 @@
 //! Records that contain themselves, or are too large.
 
 ghost use Rattle.std.specs.Prelude.{◌≡◌, ◌↔◌, length, replicate, true, IfOk, IsTrue};
-ghost use Rattle.rt_sizes.specs.Alone.{IsFirstRing};
 ghost use Rattle.rt_sizes.specs.Capped.{AreSizes, size_in};
+ghost use Rattle.rt_sizes.specs.Rings.{IsFirstRing};
 ghost use Rattle.rt_object.specs.Known.{IsFirst, is_at, is_found, is_too_large};
 ghost use Rattle.rt_object.specs.Ranges.{table_of};
 
@@ -16,7 +16,7 @@ pub fn first_bad(alloc: Global, records: &[RecordDef]) -> Result<Option<usize>, 
     ensures { IfOk result (IsFirst records.now) }
 {
     let sizes = sizes_of(alloc, records)?;
-    let ring = first_ring(alloc, records, sizes.as_slice())?;
+    let ring = first_ring(alloc, records)?;
     Ok(first_of(records, sizes.as_slice(), ring))
 }
 

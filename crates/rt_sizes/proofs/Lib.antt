@@ -3,4 +3,4 @@ pub mod Kept
 pub mod Settling
 pub mod Reaching
 pub mod Rings
-pub mod Told
+pub mod Cycles

@@ -70,7 +70,7 @@ no_mark [] s l e = omega arith
 no_mark (m ∷ ms) zero l e = cc
 no_mark (m ∷ ms) (suc s) l e = no_mark ms s (omega arith) e
 
-pub none_marked : (n s : ℕ) → Marked (replicate n false) s → ⊥
+none_marked : (n s : ℕ) → Marked (replicate n false) s → ⊥
 none_marked zero s e = cc
 none_marked (suc n) zero e = cc
 none_marked (suc n) (suc s) e = none_marked n s e

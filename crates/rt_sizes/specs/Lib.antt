@@ -1,5 +1,5 @@
 pub mod Sizes
 pub mod Capped
 pub mod Containing
-pub mod Alone
+pub mod Rings
 pub mod Reaching

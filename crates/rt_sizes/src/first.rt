@@ -1,49 +1,70 @@
-//! The first record that contains itself.
+//! The first record that contains itself: a cycle in the graph of records.
 
-ghost use Rattle.std.specs.Prelude.{◌↔◌, List, Bool, IfOk, IsTrue};
-ghost use Rattle.rt_sizes.specs.Alone.{AreAlone, IsFirstRing};
-ghost use Rattle.rt_sizes.specs.Capped.{AreSizes, table};
-ghost use Rattle.rt_sizes.specs.Containing.{Contains};
+ghost use Rattle.std.specs.Prelude.{◌≡◌, IfOk};
+ghost use Rattle.std.specs.List.{range_with_len};
+ghost use Rattle.rt_sizes.specs.Rings.{IsFirstRing, begun_by, graph_of, held_in};
 
-use crate::alone::mark_alone;
-use crate::contain::{contains_itself, is_marked};
-use crate::size::Size;
-use rt_modes::RecordDef;
-use rt_words::Memory;
+use crate::contain::held;
+use rt_digraph::{Sorted, sort};
+use rt_modes::{Field, RecordDef};
+use rt_words::{List, Memory};
 use std::alloc::Global;
 
-/// The first record that contains itself. The sizes are those of the records, whether or not all their fields are known. Records that
-/// only lead to a ring aren't followed to it.
-pub fn first_ring(
-    alloc: Global,
-    records: &[RecordDef],
-    sizes: &[Option<Size>],
-) -> Result<Option<usize>, Memory>
-    ensures { (known : List Bool) → AreSizes (table records.now known) sizes.now → IfOk result (IsFirstRing records.now) }
+/// The first record that contains itself. Where none does that takes time by the number of records and fields alone.
+pub fn first_ring(alloc: Global, records: &[RecordDef]) -> Result<Option<usize>, Memory>
+    ensures { IfOk result (IsFirstRing records.now) }
 {
-    let alone = mark_alone(alloc, records)?;
-    for number in 0..records.len() {
-        if is_ring(alloc, records, sizes, alone.as_slice(), number)? {
-            return Ok(Some(number));
-        }
-    }
-    Ok(None)
+    let graph = graph_of(alloc, records)?;
+    let roots = numbers_below(alloc, records.len())?;
+    let sorted = sort(alloc, graph.as_slice(), roots.as_slice())?;
+    Ok(begun_by(&sorted))
 }
 
-/// Whether a record contains itself, where those marked don't.
-fn is_ring(
-    alloc: Global,
-    records: &[RecordDef],
-    sizes: &[Option<Size>],
-    alone: &[bool],
-    number: usize,
-) -> Result<bool, Memory>
-    requires { AreAlone records.now alone.now }
-    ensures { (known : List Bool) → AreSizes (table records.now known) sizes.now → IfOk result (λ b. IsTrue b ↔ Contains records.now number number) }
+/// Of each record those that its fields hold.
+fn graph_of(alloc: Global, records: &[RecordDef]) -> Result<List<List<usize>>, Memory>
+    ensures { IfOk result (λ graph. graph ≡ graph_of records.now) }
 {
-    if is_marked(alone, number) {
-        Ok(false)
-    } else {
-        contains_itself(alloc, records, sizes, number)
+    let mut graph = List::new(alloc, 0)?;
+    for record in records {
+        let inner = held_in(alloc, record.fields.as_slice())?;
+        graph.push(inner)?;
+    }
+    Ok(graph)
+}
+
+/// The records that fields hold.
+fn held_in(alloc: Global, fields: &[Field]) -> Result<List<usize>, Memory>
+    ensures { IfOk result (λ inner. inner ≡ held_in fields.now) }
+{
+    let mut inner = List::new(alloc, 0)?;
+    for field in fields {
+        if let Some(number) = held(&field.mode) {
+            inner.push(number)?;
+        }
+    }
+    Ok(inner)
+}
+
+/// The numbers below one.
+fn numbers_below(alloc: Global, count: usize) -> Result<List<usize>, Memory>
+    ensures { IfOk result (λ numbers. numbers ≡ range_with_len 0 count) }
+{
+    let mut numbers = List::new(alloc, 0)?;
+    for number in 0..count {
+        numbers.push(number)?;
+    }
+    Ok(numbers)
+}
+
+/// The node with which a cycle begins, where one was found.
+fn begun_by(sorted: &Sorted) -> Option<usize>
+    ensures { result ≡ begun_by sorted.now }
+{
+    match sorted {
+        Sorted::Order(_) => None,
+        Sorted::Cycle(cycle) => match cycle.get(0) {
+            Some(first) => Some(*first),
+            None => None,
+        },
     }
 }

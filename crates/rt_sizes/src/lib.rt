@@ -3,10 +3,11 @@
 //!
 //! `specs/Sizes.antt` has the definitions, on plain data: the size of a value of a mode, where the fields of a record lie, and
 //! the field with which they pass 57,344 bytes. A record that contains itself other than through REF or PROC has no size.
-//! `specs/Capped.antt` has what is kept of a size: the number of bytes up to 57,344, or that it is larger.
+//! `specs/Capped.antt` has what is kept of a size: the number of bytes up to 57,344, or that it is larger. `specs/Containing.antt` has
+//! which records contain which, and `specs/Rings.antt` the first that contains itself: the first on a cycle of the graph of records
+//! (`rt_digraph`).
 #![tactic(auto)]
 
-mod alone;
 mod contain;
 mod fields;
 mod first;
@@ -14,7 +15,6 @@ mod order;
 mod settle;
 mod size;
 mod value;
-mod walk;
 
 pub use contain::contains_itself;
 pub use fields::{data_size, field_offset, passing_field};
