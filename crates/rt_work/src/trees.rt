@@ -8,7 +8,10 @@ ghost use Rattle.rt_work_state.specs.declared.scene.Env.{Env};
 
 use rt_tree::{Datum, Location, Origin, Proc, Rel};
 use rt_words::{List, Memory};
-use rt_work_state::{CondNode, Env, Item, LabelsNode, Next, PathNode, Scene, SeqNode, StmtNode, TermNode, TermsNode, copy_datum};
+use rt_work_state::{
+    CondNode, Env, Item, LabelsNode, Next, PathNode, Scene, SeqNode, StmtNode, TermNode, TermsNode,
+    copy_datum,
+};
 use std::alloc::Global;
 use std::rc::Rc;
 

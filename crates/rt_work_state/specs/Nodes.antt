@@ -1,5 +1,5 @@
 -- The trees of the code, and what it holds of a task, as plain trees and plain data.
-use Rattle.std.specs.Prelude.{◌≡◌, ℕ, ◌+◌, ◌<◌, List, [], ◌∷◌, slice_get, Option, Some, None}
+use Rattle.std.specs.Prelude.{ℕ, List, [], ◌∷◌, slice_get, Option, Some, None}
 use Rattle.rt_tree_nodes.specs.declared.store.Proc.{Proc}
 use Rattle.rt_tree_nodes.specs.declared.store.Datum.{Datum}
 use Rattle.rt_tree_nodes.specs.Tree.{Term, Num, Str, Name, Own, Get, Ref, RefRow, Count, CountRow, One, Two, Over, Apply, ApplyBy, Path, ItemAt, Svc, FieldOf, Elem, ElemRow, Past, Terms, NoTerm, MoreTerms, Cond, Is, Both, Either, Stmt, Keep, Clear, Put, Run, Toss, Goto, GiveBack, Back, Switch, Inner, If, For, To, While, Recover, Seq, Done, Then, Mark}
@@ -22,7 +22,6 @@ use Rattle.rt_work_state.specs.declared.scene.Item.TheVariants as i
 use Rattle.rt_work_state.specs.declared.scene.Next.{Next as NextNode}
 use Rattle.rt_work_state.specs.declared.scene.Next.TheVariants as x
 use Rattle.rt_work_state.specs.declared.scene.Env.{Env as EnvNode}
-use Rattle.rt_work_state.specs.declared.scene.Scene.{Scene}
 use Rattle.rt_work_state.specs.Stores.{supplied}
 use Rattle.rt_work_state.specs.Items as task
 use Rattle.rt_work_state.specs.Items.{Env, Item, Next}
