@@ -4,7 +4,7 @@ use Rattle.rt_tree_nodes.specs.Tree.{Stmt, If, Seq, Done, Then, Mark}
 use Rattle.rt_lower.specs.declared.draft.Draft.{Draft}
 use Rattle.rt_layouts.specs.declared.layouts.Layouts.{Layouts}
 use Rattle.rt_lower.specs.Drafts.{IfParts, parts_of, alone_if, arm, otherwise, sequence}
-use Rattle.rt_lower.proofs.Sizes.{size_q}
+use Rattle.rt_work_state.proofs.Sizes.{size_q}
 
 pub record IsAlone (l : Layouts) (q : Seq) (x : IfParts) : Type 0 where
   pub same : (end : ℕ) (d : Draft) → otherwise l end q d ≡ otherwise l end x.other (arm l end x.test (sequence l x.taken) d)

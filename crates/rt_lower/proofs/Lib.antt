@@ -3,6 +3,5 @@ pub mod Laying
 pub mod Drafted
 pub mod Labelled
 pub mod Whole
-pub mod Sizes
 pub mod Growing
 pub mod Alone

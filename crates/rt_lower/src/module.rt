@@ -8,8 +8,8 @@ ghost use Rattle.rt_lower.specs.Drafts as drafts;
 ghost use Rattle.rt_layouts.specs.Layouts.{AreLayouts};
 
 use crate::draft::Draft;
-use rt_layouts::Layouts;
 use rt_icode::{IModule, IProc, Ins};
+use rt_layouts::Layouts;
 use rt_modes::Mode;
 use rt_resolve::body_tree;
 use rt_tree::{Brick, BrickSort, ProcBody, TypedModule};

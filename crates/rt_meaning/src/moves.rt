@@ -16,7 +16,10 @@ use rt_resolve::ModuleCode;
 use rt_rules::{Outcome, Svc};
 use rt_tree::{Datum, Location, Proc, Step};
 use rt_words::{List, Memory};
-use rt_work_state::{Item, ModuleStore, Next, Request, Scene, Stack, copy_datum, copy_values, read, read_own, write, write_own};
+use rt_work_state::{
+    Item, ModuleStore, Next, Request, Scene, Stack, copy_datum, copy_values, read, read_own, write,
+    write_own,
+};
 use std::alloc::Global;
 use std::mem::replace;
 

@@ -1,3 +1,3 @@
 mod Changes
 mod Firsts
-mod Sizes
+pub mod Sizes

@@ -3,7 +3,7 @@ use Rattle.rt_work_state.specs.Nodes as n
 use Rattle.rt_work_state.specs.Items.{how_many}
 use Rattle.rt_lower.specs.Values as values
 use Rattle.rt_lower.specs.Drafts.{whole}
-use Rattle.rt_lower.proofs.Sizes.{size_t, size_p, size_ts}
+use Rattle.rt_work_state.proofs.Sizes.{size_t, size_p, size_ts}
 use Rattle.rt_lower.proofs.values.+values.Given as goal
 
 abbrev pub decreases-term : goal.decreases-term

@@ -3,7 +3,7 @@ use Rattle.rt_work_state.specs.Nodes as n
 use Rattle.rt_lower.specs.declared.draft.Draft.{Draft}
 use Rattle.rt_lower.specs.Drafts as drafts
 use Rattle.rt_lower.proofs.Alone.{is_alone, not_alone}
-use Rattle.rt_lower.proofs.Sizes.{size_q}
+use Rattle.rt_work_state.proofs.Sizes.{size_q}
 use Rattle.rt_lower.proofs.draft.Draft.+statements.Goals as goal
 
 pub otherwise-arm-requires : goal.otherwise-arm-requires

@@ -1,7 +1,7 @@
 use Rattle.std.proofs.Common.{◌≡◌, ◌+◌, ◌*◌, ◌≤◌}
 use Rattle.rt_work_state.specs.Nodes as n
 use Rattle.rt_lower.specs.Drafts as drafts
-use Rattle.rt_lower.proofs.Sizes.{size_s, size_q}
+use Rattle.rt_work_state.proofs.Sizes.{size_s, size_q}
 use Rattle.rt_lower.proofs.draft.Draft.+statements.Given as goal
 
 abbrev pub decreases-sequence : goal.decreases-sequence
