@@ -1,0 +1,14 @@
+//! What the bytes of a data brick keep. There is no code here but functions that do nothing, whose contracts are the laws;
+//! `specs/Laws.antt` has their statements.
+
+ghost use Rattle.rt_compile_data.specs.Laws as laws;
+
+/// The places of relocations rise, are even, and lie in the bytes, whatever the starts are.
+pub fn places_are_within()
+    ensures { laws.PlacesAreWithin }
+{}
+
+/// Where starts fit, there are as many bytes as the items have.
+pub fn bytes_are_counted()
+    ensures { laws.BytesAreCounted }
+{}
