@@ -1,10 +1,10 @@
 -- Where starts fit, there are as many bytes as the items have.
-use Rattle.std.proofs.Common.{◌≡◌, ℕ, zero, suc, ◌+◌, ◌*◌, ◌%◌, ◌==◌, ◌&&◌, Bool, true, false, if◌then◌else◌, List, [], ◌∷◌, ◌++◌, length, map, Option, Some, None, option_map, refl, sym, ap, ◌∙◌, subst, arith, length-append}
+use Rattle.std.proofs.Common.{◌≡◌, ℕ, zero, suc, ◌+◌, ◌*◌, ◌%◌, ◌==◌, ◌&&◌, Bool, true, false, if◌then◌else◌, List, [], ◌∷◌, length, map, Option, Some, None, option_map, refl, sym, ap, ◌∙◌, subst, arith, length-append}
 use Rattle.std.proofs.lemmas.Bool.Decides.{nat_tests}
 use Rattle.std.specs.Prelude.{slice_get}
 use Rattle.rt_words.specs.Bytes.{word_bytes}
 use Rattle.rt_modes.specs.declared.mode.Field.{Field}
-use Rattle.rt_modes.specs.declared.mode.Mode.{Mode, out-Mode, map-Mode}
+use Rattle.rt_modes.specs.declared.mode.Mode.{Mode, out-Mode}
 use Rattle.rt_modes.specs.declared.mode.Mode.TheOpen.{Mode-F}
 use Rattle.rt_modes.specs.declared.mode.RecordDef.{RecordDef}
 use Rattle.rt_sizes.specs.Sizes.{begins, and_then, Table, fields_if, fields_of, within, End, size_layer, size, field_begins, field_end, fields_end, record_layer}
@@ -14,7 +14,7 @@ use Rattle.rt_tree_nodes.specs.declared.brick.DataStart.{DataStart, out-DataStar
 use Rattle.rt_tree_nodes.specs.declared.brick.DataStart as data_start
 use Rattle.rt_tree_nodes.specs.declared.brick.DataStart.TheFolds.{ind-DataStart, fold_out-DataStart}
 use Rattle.rt_tree_nodes.specs.declared.brick.DataStart.TheOpen.{DataStart-F}
-use Rattle.rt_tree_nodes.specs.Scopes.{Scope, passes, same, proc_mode}
+use Rattle.rt_tree_nodes.specs.Scopes.{Scope, same, proc_mode}
 use Rattle.rt_tree_nodes.proofs.Same.{same_equal}
 use Rattle.rt_tree.specs.Modules.{Starts, shared_mode, number_starts, text_starts, place_starts, all_start, fields_start, record_starts, list_starts}
 use Rattle.rt_tree.specs.Modules as modules
@@ -24,8 +24,12 @@ use Rattle.rt_object.specs.Ranges.{IsProcMode, IsProcLayer}
 use Rattle.rt_layouts.specs.declared.layouts.Layouts.{Layouts}
 use Rattle.rt_layouts.specs.Layouts.{table_of}
 use Rattle.rt_compile_data.specs.declared.written.Data.{Data}
-use Rattle.rt_compile_data.specs.Data.{nothing, with_bytes, even, word, hole, address, offset_of, Writing, number, elements, fields, record_fields, listed, one_start, starts, data_of}
-use Rattle.rt_compile_data.specs.Laws.{ProcsArePROC}
+use Rattle.rt_compile_data.specs.Data.{nothing, with_bytes, even, word, address, offset_of, Writing, number, elements, fields, record_fields, listed, one_start, starts, data_of}
+use Rattle.rt_compile_data.proofs.Tests.{left_of, right_of, passed}
+
+-- procedures have PROC modes
+abbrev pub ProcsArePROC : Scope → Type 0
+ProcsArePROC c = (b : ℕ) (m : Mode) → proc_mode c.bricks b ≡ Some m → IsProcMode m
 
 -- how many bytes are written
 abbrev count : Data → ℕ
@@ -146,18 +150,6 @@ record_size t (suc k) r n d is e = by (fields_of t r) refl e where
   by (Some fs) h g = ended (fields_end (within t k) fs 0) fs refl g (fields_are (slice_get t.known r) d fs (sym (ap (fields_if (slice_get t.known r)) is) ∙ h))
 
 -- ---- tests
-
-left_of : (a b : Bool) → (a && b) ≡ true → a ≡ true
-left_of true b e = refl
-left_of false b e = absurd cc
-
-right_of : (a b : Bool) → (a && b) ≡ true → b ≡ true
-right_of true b e = e
-right_of false b e = absurd cc
-
-passed : {A : Type 0} (test : A → Bool) (o : Option A) → passes test o ≡ true → (x : A) × (o ≡ Some x) × (test x ≡ true)
-passed test None e = absurd cc
-passed test (Some x) e = (x, refl, e)
 
 same_count : (a b : ℕ) → (a == b) ≡ true → a ≡ b
 same_count a b e = grind (arith, nat_tests)

@@ -1,2 +1,4 @@
+mod Tests
 mod Places
 mod Counted
+mod Fitting

@@ -1,14 +1,16 @@
 -- What the bytes of a data brick keep.
-use Rattle.std.specs.Prelude.{◌≡◌, ℕ, ◌*◌, ◌<◌, true, List, length, map, Some}
+use Rattle.std.specs.Prelude.{◌≡◌, ℕ, ◌*◌, ◌<◌, true, List, length, map, Some, slice_get}
 use Rattle.std.specs.List.{AllByRecursion}
 use Rattle.rt_modes.specs.declared.mode.Field.{Field}
-use Rattle.rt_modes.specs.declared.mode.Mode.{Mode}
 use Rattle.rt_sizes.specs.Sizes.{End}
+use Rattle.rt_tree_nodes.specs.declared.brick.Brick.{Brick}
+use Rattle.rt_tree_nodes.specs.declared.brick.BrickSort.TheVariants as sort
 use Rattle.rt_tree_nodes.specs.declared.brick.DataStart.{DataStart}
-use Rattle.rt_tree_nodes.specs.Scopes.{Scope, proc_mode}
-use Rattle.rt_tree.specs.Modules.{items_start}
+use Rattle.rt_tree_nodes.specs.declared.brick.ModuleParts.{ModuleParts}
+use Rattle.rt_tree_nodes.specs.Scopes.{Scope, scope_of}
+use Rattle.rt_tree.specs.Modules.{is_here, every_node_fits}
 use Rattle.rt_object.specs.declared.object.Relocation.{Relocation}
-use Rattle.rt_object.specs.Ranges.{Rise, IsProcMode}
+use Rattle.rt_object.specs.Ranges.{Rise}
 use Rattle.rt_layouts.specs.declared.layouts.Layouts.{Layouts}
 use Rattle.rt_layouts.specs.Layouts.{table_of}
 use Rattle.rt_compile_data.specs.declared.written.Data.{Data}
@@ -33,10 +35,6 @@ PlacesAreWithin = (l : Layouts) (c : Scope) (fs : List Field) (ss : List DataSta
 
 -- ---- the number of bytes
 
--- as in each module whose nodes fit
-abbrev pub ProcsArePROC : Scope → Type 0
-ProcsArePROC c = (b : ℕ) (m : Mode) → proc_mode c.bricks b ≡ Some m → IsProcMode m
-
--- where starts fit, there are as many bytes as the items have
+-- where every node of a module fits, each of its own and ENT data bricks has as many bytes as its items
 abbrev pub BytesAreCounted : Type 0
-BytesAreCounted = (l : Layouts) (c : Scope) (fs : List Field) (ss : List DataStart) (n : ℕ) → ProcsArePROC c → items_start c ss fs ≡ true → End (table_of c.records) fs n → length (data_of l c fs ss).bytes ≡ n
+BytesAreCounted = (l : Layouts) (p : ModuleParts) (b : ℕ) (d : Brick) (fs : List Field) (ss : List DataStart) (n : ℕ) → every_node_fits p ≡ true → slice_get p.bricks b ≡ Some d → is_here d.kind ≡ true → d.sort ≡ sort.Data fs ss → End (table_of p.modes.records) fs n → length (data_of l (scope_of p) fs ss).bytes ≡ n

@@ -8,7 +8,7 @@ pub fn places_are_within()
     ensures { laws.PlacesAreWithin }
 {}
 
-/// Where starts fit, there are as many bytes as the items have.
+/// Where every node of a module fits, each of its own and ENT data bricks has as many bytes as its items.
 pub fn bytes_are_counted()
     ensures { laws.BytesAreCounted }
 {}
