@@ -11,8 +11,7 @@ use Rattle.rt_sizes.specs.Sizes.{begins, and_then, Table, fields_if, fields_of, 
 use Rattle.rt_sizes.specs.Sizes as sizes
 use Rattle.rt_sizes.proofs.Layers.{size_at, some_is}
 use Rattle.rt_tree_nodes.specs.declared.brick.DataStart.{DataStart, out-DataStart, roll-DataStart, map-DataStart}
-use Rattle.rt_tree_nodes.specs.declared.brick.DataStart as data_start
-use Rattle.rt_tree_nodes.specs.declared.brick.DataStart.TheFolds.{ind-DataStart, fold_out-DataStart}
+use Rattle.rt_tree_nodes.specs.declared.brick.DataStart.TheFolds.{ind-DataStart}
 use Rattle.rt_tree_nodes.specs.declared.brick.DataStart.TheOpen.{DataStart-F}
 use Rattle.rt_tree_nodes.specs.Scopes.{Scope, same, proc_mode}
 use Rattle.rt_tree_nodes.proofs.Same.{same_equal}
@@ -25,6 +24,7 @@ use Rattle.rt_layouts.specs.declared.layouts.Layouts.{Layouts}
 use Rattle.rt_layouts.specs.Layouts.{table_of}
 use Rattle.rt_compile_data.specs.declared.written.Data.{Data}
 use Rattle.rt_compile_data.specs.Data.{nothing, with_bytes, even, word, address, offset_of, Writing, number, elements, fields, record_fields, listed, one_start, starts, data_of}
+use Rattle.rt_compile_data.proofs.Layers.{out_roll, fits_at, written_at}
 use Rattle.rt_compile_data.proofs.Tests.{left_of, right_of, passed}
 
 -- procedures have PROC modes
@@ -271,14 +271,10 @@ module _ (l : Layouts) (c : Scope) (procs : ProcsArePROC c) where
       place_ends m (out-Mode m) p.0 k d (relocated.Brick b) (offset_of l c b j path) refl p.2
   of_form m (DataStart-F.List xs) fit k d = list_ends xs m (out-Mode m) k d refl fit
 
-  out_roll : (x : DataStart-F DataStart) → out-DataStart (roll-DataStart x) ≡ x
-  out_roll x = search data_start.the_lemmas
-
   by_form : (s : DataStart) (y : DataStart-F Pair) → out-DataStart s ≡ map-DataStart Pair DataStart (λ e. e.0) y → Good s
   by_form s y o m fit k d n h =
-      let one : modules.starts c s ≡ modules.one_start c (map-DataStart DataStart Starts (modules.starts c) (map-DataStart Pair DataStart (λ e. e.0) y)) = rw (fold_out-DataStart, o) refl in
-      let written : starts l c s ≡ one_start l c (map-DataStart DataStart Writing (starts l c) (map-DataStart Pair DataStart (λ e. e.0) y)) = rw (fold_out-DataStart, o) refl in
-      ap (λ (f : Writing). count (f m d)) written ∙ of_form m y (sym (ap (λ (f : Starts). f m) one) ∙ fit) k d n h
+      let x : DataStart-F DataStart = map-DataStart Pair DataStart (λ e. e.0) y in
+      ap (λ (f : Writing). count (f m d)) (written_at l c s x o) ∙ of_form m y (sym (ap (λ (f : Starts). f m) (fits_at c s x o)) ∙ fit) k d n h
 
   start_good : (s : DataStart) → Good s
   start_good = ind-DataStart Good (λ x y is. by_form (roll-DataStart x) y (out_roll x ∙ sym is))

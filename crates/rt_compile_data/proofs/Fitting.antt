@@ -15,6 +15,7 @@ use Rattle.rt_tree_nodes.specs.Scopes.{Scope, faces, sort_of, proc_in, proc_mode
 use Rattle.rt_tree_nodes.specs.Typing.{Signature, signature_by}
 use Rattle.rt_tree.specs.Modules.{is_here, items_start, body_fits, stands_alone, item_stands, data_starts, sort_fits, brick_fits, record_stands, is_short, every_node_fits}
 use Rattle.rt_object.specs.Ranges.{IsProcMode, IsProcLayer}
+use Rattle.rt_compile_data.specs.Laws.{IsDataBrick}
 use Rattle.rt_compile_data.proofs.Tests.{left_of, right_of, passed}
 
 one_of : {A : Type 0} (test : A → Bool) (xs : List A) (k : ℕ) (x : A) → list_all test xs ≡ true → slice_get xs k ≡ Some x → test x ≡ true
@@ -62,5 +63,5 @@ module _ (p : ModuleParts) (fits : every_node_fits p ≡ true) where
       proc_sort (scope_of p) there.0.kind there.0.name there.0.sort m there.2 (brick_there b there.0 there.1)
 
   -- the starts of an own or ENT data brick fit its items
-  pub starts_fit : (b : ℕ) (d : Brick) (fs : List Field) (ss : List DataStart) → slice_get p.bricks b ≡ Some d → is_here d.kind ≡ true → d.sort ≡ sort.Data fs ss → items_start (scope_of p) ss fs ≡ true
-  starts_fit b d fs ss e here is = data_sort (scope_of p) d.kind d.name d.sort fs ss is here (brick_there b d e)
+  pub starts_fit : (fs : List Field) (ss : List DataStart) → IsDataBrick p fs ss → items_start (scope_of p) ss fs ≡ true
+  starts_fit fs ss b = data_sort (scope_of p) b.brick.kind b.brick.name b.brick.sort fs ss b.sort_is b.here (brick_there b.number b.brick b.there)

@@ -1,4 +1,6 @@
 mod Tests
+mod Layers
 mod Places
 mod Counted
+mod Named
 mod Fitting

@@ -10,8 +10,7 @@ use Rattle.rt_modes.specs.declared.mode.Mode.{Mode, out-Mode}
 use Rattle.rt_modes.specs.declared.mode.Mode.TheOpen.{Mode-F}
 use Rattle.rt_modes.specs.declared.mode.RecordDef.{RecordDef}
 use Rattle.rt_tree_nodes.specs.declared.brick.DataStart.{DataStart, out-DataStart, roll-DataStart, map-DataStart}
-use Rattle.rt_tree_nodes.specs.declared.brick.DataStart as data_start
-use Rattle.rt_tree_nodes.specs.declared.brick.DataStart.TheFolds.{ind-DataStart, fold_out-DataStart}
+use Rattle.rt_tree_nodes.specs.declared.brick.DataStart.TheFolds.{ind-DataStart}
 use Rattle.rt_tree_nodes.specs.declared.brick.DataStart.TheOpen.{DataStart-F}
 use Rattle.rt_tree_nodes.specs.Scopes.{Scope}
 use Rattle.rt_object.specs.declared.object.Relocated.{Relocated}
@@ -22,6 +21,7 @@ use Rattle.rt_layouts.specs.declared.layouts.Layouts.{Layouts}
 use Rattle.rt_compile_data.specs.declared.written.Data.{Data}
 use Rattle.rt_compile_data.specs.Data.{nothing, with_bytes, even, word, relocation, hole, address, offset_of, Writing, number, elements, fields, record_fields, listed, one_start, starts, data_of}
 use Rattle.rt_compile_data.specs.Laws.{places, IsInside, AreWithin}
+use Rattle.rt_compile_data.proofs.Layers.{out_roll, written_at}
 
 -- ---- lists
 
@@ -29,7 +29,7 @@ all_so : {A : Type 0} (P Q : A → Type 0) → ((x : A) → P x → Q x) → (xs
 all_so P Q h [] a = tt
 all_so P Q h (x ∷ xs) a = (h x a.0, all_so P Q h xs a.1)
 
-all_and_one : {A : Type 0} (P : A → Type 0) (xs : List A) (y : A) → AllByRecursion P xs → P y → AllByRecursion P (xs ++ y ∷ [])
+pub all_and_one : {A : Type 0} (P : A → Type 0) (xs : List A) (y : A) → AllByRecursion P xs → P y → AllByRecursion P (xs ++ y ∷ [])
 all_and_one P [] y a h = (h, tt)
 all_and_one P (x ∷ xs) y a h = (a.0, all_and_one P xs y a.1 h)
 
@@ -143,9 +143,6 @@ listed_within records fs all (Mode-F.Array n m) d a = even_within (elements fs m
 listed_within records fs all (Mode-F.Record r) d a = even_within (record_fields fs (slice_get records r) (even d)) (record_within fs all (slice_get records r) (even d) (even_within d a))
 listed_within records fs all (Mode-F.Proc ps r) d a = a
 
-out_roll : (x : DataStart-F DataStart) → out-DataStart (roll-DataStart x) ≡ x
-out_roll x = search data_start.the_lemmas
-
 module _ (l : Layouts) (c : Scope) where
   abbrev Good : DataStart → Type 0
   Good s = Keeps (starts l c s)
@@ -168,9 +165,7 @@ module _ (l : Layouts) (c : Scope) where
   of_form (DataStart-F.List xs) m d a = listed_within c.records (map (starts l c) (firsts xs)) (all_keep xs) (out-Mode m) d a
 
   by_form : (s : DataStart) (y : DataStart-F Pair) → out-DataStart s ≡ map-DataStart Pair DataStart (λ e. e.0) y → Good s
-  by_form s y o =
-      let one : starts l c s ≡ one_start l c (map-DataStart DataStart Writing (starts l c) (map-DataStart Pair DataStart (λ e. e.0) y)) = rw (fold_out-DataStart, o) refl in
-      subst (λ (f : Writing). Keeps f) (sym one) (of_form y)
+  by_form s y o = subst (λ (f : Writing). Keeps f) (sym (written_at l c s (map-DataStart Pair DataStart (λ e. e.0) y) o)) (of_form y)
 
   start_keeps : (s : DataStart) → Good s
   start_keeps = ind-DataStart Good (λ x y is. by_form (roll-DataStart x) y (out_roll x ∙ sym is))

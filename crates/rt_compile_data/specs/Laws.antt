@@ -10,7 +10,7 @@ use Rattle.rt_tree_nodes.specs.declared.brick.ModuleParts.{ModuleParts}
 use Rattle.rt_tree_nodes.specs.Scopes.{Scope, scope_of}
 use Rattle.rt_tree.specs.Modules.{is_here, every_node_fits}
 use Rattle.rt_object.specs.declared.object.Relocation.{Relocation}
-use Rattle.rt_object.specs.Ranges.{Rise}
+use Rattle.rt_object.specs.Ranges.{Rise, IsNamed}
 use Rattle.rt_layouts.specs.declared.layouts.Layouts.{Layouts}
 use Rattle.rt_layouts.specs.Layouts.{table_of}
 use Rattle.rt_compile_data.specs.declared.written.Data.{Data}
@@ -33,8 +33,20 @@ pub record AreWithin (d : Data) : Type 0 where
 abbrev pub PlacesAreWithin : Type 0
 PlacesAreWithin = (l : Layouts) (c : Scope) (fs : List Field) (ss : List DataStart) → AreWithin (data_of l c fs ss)
 
--- ---- the number of bytes
+-- ---- the data of modules of which every node fits
 
--- where every node of a module fits, each of its own and ENT data bricks has as many bytes as its items
+-- the items and the starts of an own or ENT data brick
+pub record IsDataBrick (p : ModuleParts) (fs : List Field) (ss : List DataStart) : Type 0 where
+  pub number : ℕ
+  pub brick : Brick
+  pub there : slice_get p.bricks number ≡ Some brick
+  pub here : is_here brick.kind ≡ true
+  pub sort_is : brick.sort ≡ sort.Data fs ss
+
+-- each brick and string that is named is one of the module
+abbrev pub PlacesAreNamed : Type 0
+PlacesAreNamed = (l : Layouts) (p : ModuleParts) (fs : List Field) (ss : List DataStart) → every_node_fits p ≡ true → IsDataBrick p fs ss → AllByRecursion (λ r. IsNamed (length p.strings) (length p.bricks) r.of) (data_of l (scope_of p) fs ss).relocations
+
+-- there are as many bytes as the items have
 abbrev pub BytesAreCounted : Type 0
-BytesAreCounted = (l : Layouts) (p : ModuleParts) (b : ℕ) (d : Brick) (fs : List Field) (ss : List DataStart) (n : ℕ) → every_node_fits p ≡ true → slice_get p.bricks b ≡ Some d → is_here d.kind ≡ true → d.sort ≡ sort.Data fs ss → End (table_of p.modes.records) fs n → length (data_of l (scope_of p) fs ss).bytes ≡ n
+BytesAreCounted = (l : Layouts) (p : ModuleParts) (fs : List Field) (ss : List DataStart) (n : ℕ) → every_node_fits p ≡ true → IsDataBrick p fs ss → End (table_of p.modes.records) fs n → length (data_of l (scope_of p) fs ss).bytes ≡ n

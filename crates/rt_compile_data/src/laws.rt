@@ -8,6 +8,11 @@ pub fn places_are_within()
     ensures { laws.PlacesAreWithin }
 {}
 
+/// Where every node of a module fits, each brick and string that its own and ENT data bricks name is one of the module.
+pub fn places_are_named()
+    ensures { laws.PlacesAreNamed }
+{}
+
 /// Where every node of a module fits, each of its own and ENT data bricks has as many bytes as its items.
 pub fn bytes_are_counted()
     ensures { laws.BytesAreCounted }

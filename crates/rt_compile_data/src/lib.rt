@@ -8,6 +8,6 @@ mod offset;
 mod starts;
 mod written;
 
-pub use laws::{bytes_are_counted, places_are_within};
+pub use laws::{bytes_are_counted, places_are_named, places_are_within};
 pub use starts::data_of;
 pub use written::Data;

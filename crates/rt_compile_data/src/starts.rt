@@ -19,7 +19,8 @@ use std::alloc::Global;
 ///
 /// # Errors
 ///
-/// Want of memory; also where a place or an offset has more than 16 bits, which is so in no data brick of at most 57,344 bytes.
+/// Want of memory; also where a place or an offset has more than 16 bits, which is so in no data brick of at most 57,344 bytes, and
+/// where a path leads through an array of arrays, which no typed module has.
 pub fn data_of(
     alloc: Global,
     layouts: &Layouts,

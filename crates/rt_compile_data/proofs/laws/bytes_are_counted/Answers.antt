@@ -4,4 +4,4 @@ use Rattle.rt_compile_data.proofs.Fitting.{procs_are_proc, starts_fit}
 use Rattle.rt_compile_data.proofs.laws.bytes_are_counted.Goals as goal
 
 pub returns : goal.returns
-returns c = λ l p b d fs ss n fits there here is end. data_counts l (scope_of p) (procs_are_proc p fits) fs ss n (starts_fit p fits b d fs ss there here is) end
+returns c = λ l p fs ss n fits b end. data_counts l (scope_of p) (procs_are_proc p fits) fs ss n (starts_fit p fits fs ss b) end
