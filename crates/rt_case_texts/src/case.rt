@@ -1,5 +1,9 @@
 //! The case so far: its texts, its tasks, and the input of its console.
 
+ghost use Rattle.std.specs.Prelude.{◌≡◌, [], codes, map, string_bytes, IfOk, IfErr};
+ghost use Rattle.rt_case_texts.specs.Lines.{last_or};
+ghost use Rattle.rt_case_texts.specs.declared.stop.Stop.TheVariants as stop;
+
 use crate::expansion::{expand, number};
 use crate::stop::Stop;
 use rt_system::library;
@@ -30,7 +34,12 @@ pub struct Case {
 
 impl Case {
     /// A case without texts and tasks.
-    pub fn new(alloc: Global) -> Result<Case, Stop> {
+    pub fn new(alloc: Global) -> Result<Case, Stop>
+        ensures texts { IfOk result (λ c. c.texts ≡ []) }
+        ensures tasks { IfOk result (λ c. c.tasks ≡ []) }
+        ensures input { IfOk result (λ c. string_bytes c.input ≡ []) }
+        ensures error { IfErr result (λ e. e ≡ stop.Memory) }
+    {
         let texts = List::new(alloc, 0)?;
         let tasks = List::new(alloc, 0)?;
         Ok(Case {
@@ -94,10 +103,12 @@ impl Case {
     }
 
     /// The last text, or the piece alone where there is none.
-    pub fn frame(&self) -> &str {
-        match self.texts.as_slice() {
-            [.., last] => last.as_str(),
-            [] => "@",
+    pub fn frame(&self) -> &str
+        ensures { result.now ≡ last_or (codes "@") (map string_bytes self.now.texts) }
+    {
+        match self.texts.as_slice().last() {
+            Some(last) => last.as_str(),
+            None => "@",
         }
     }
 }

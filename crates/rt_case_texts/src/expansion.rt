@@ -1,7 +1,13 @@
 //! Lines of cases as they are written: `~` ends a line of the text, `{PIECE^COUNT}` is a piece so many times, in which `?` is
 //! the number of the turn, from 1, and `{CODE}` is the character of this code.
 
+ghost use Rattle.std.specs.Prelude.{◌≡◌, ◌++◌, string_bytes, OnOk, IfErr};
+ghost use Rattle.std.specs.Str.Parse.{ParsesUnsigned};
+ghost use Rattle.rt_case_texts.specs.Lines.{shown, all_shown};
+ghost use Rattle.rt_case_texts.specs.declared.stop.Stop.TheVariants as stop;
+
 use crate::stop::Stop;
+use itoa::Buffer;
 use std::fmt::Write;
 
 /// Appends what is written.
@@ -46,8 +52,11 @@ fn repeated(out: &mut String, piece: &str, count: u32) -> Result<(), Stop> {
     Ok(())
 }
 
-/// The number that is written.
-pub fn number(written: &str) -> Result<u32, Stop> {
+/// The number that is written, in decimal digits.
+pub fn number(written: &str) -> Result<u32, Stop>
+    ensures number { ParsesUnsigned 32 10 written.now result }
+    ensures error { IfErr result (λ e. e ≡ stop.Line) }
+{
     match written.parse::<u32>() {
         Ok(n) => Ok(n),
         Err(_) => Err(Stop::Line),
@@ -55,13 +64,25 @@ pub fn number(written: &str) -> Result<u32, Stop> {
 }
 
 /// Appends bytes: what is printed in ASCII as it is, and other bytes as `{CODE}`.
-pub fn write_bytes(out: &mut String, bytes: &[u8]) -> Result<(), Stop> {
+pub fn write_bytes(out: &mut String, bytes: &[u8]) -> Result<(), Stop>
+    ensures shown { OnOk result (string_bytes out.new ≡ string_bytes out.old ++ all_shown bytes.now) }
+    ensures error { IfErr result (λ e. e ≡ stop.Memory) }
+{
     for byte in bytes {
-        if (32..127).contains(byte) {
-            out.push(char::from(*byte))?;
-        } else {
-            write!(out, "{{{byte}}}")?;
-        }
+        write_byte(out, *byte)?;
     }
     Ok(())
+}
+
+fn write_byte(out: &mut String, byte: u8) -> Result<(), Stop>
+    ensures shown { OnOk result (string_bytes out.new ≡ string_bytes out.old ++ shown byte) }
+    ensures error { IfErr result (λ e. e ≡ stop.Memory) }
+{
+    if (32..127).contains(&byte) {
+        return Ok(out.push(char::from(byte))?);
+    }
+    let mut digits = Buffer::new();
+    out.push('{')?;
+    out.push_str(digits.format(byte))?;
+    Ok(out.push('}')?)
 }

@@ -13,12 +13,22 @@ pub enum Stop {
 }
 
 impl From<Memory> for Stop {
+    ghost use Rattle.std.specs.Prelude.{◌≡◌};
+    ghost use Rattle.rt_case_texts.specs.declared.stop.Stop.TheVariants as stop;
+
+    ghost from_gives = { λ _ e. e ≡ stop.Memory };
+
     fn from(_error: Memory) -> Stop {
         Stop::Memory
     }
 }
 
 impl From<AllocError> for Stop {
+    ghost use Rattle.std.specs.Prelude.{◌≡◌};
+    ghost use Rattle.rt_case_texts.specs.declared.stop.Stop.TheVariants as stop;
+
+    ghost from_gives = { λ _ e. e ≡ stop.Memory };
+
     fn from(_error: AllocError) -> Stop {
         Stop::Memory
     }
