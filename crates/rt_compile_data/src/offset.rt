@@ -1,16 +1,14 @@
 //! Where a place of data begins in its brick.
 
 ghost use Rattle.std.specs.Prelude.{◌≡◌, IfOk};
-ghost use Rattle.std.specs.Option.{option_copied};
 ghost use Rattle.rt_modes.specs.declared.mode.Mode.{out-Mode};
-ghost use Rattle.rt_tree.specs.Modules as modules;
 ghost use Rattle.rt_tree_nodes.specs.Code as seen;
 ghost use Rattle.rt_compile_data.specs.Data as bytes;
 
 use crate::written::small;
 use rt_layouts::Layouts;
 use rt_modes::Mode;
-use rt_tree::{Scope, shared_mode};
+use rt_tree::{Scope, part_mode, shared_mode};
 use rt_words::Memory;
 
 /// Where the part of item `j` of brick `b` begins to which a path leads.
@@ -63,22 +61,5 @@ fn part_begins(layouts: &Layouts, k: u16, begin: u16, mode: &Mode) -> Result<u16
             small(usize::from(begin) + 2 + usize::from(k) * usize::from(size))
         }
         _ => Ok(begin),
-    }
-}
-
-/// The mode of a field or an element.
-fn part_mode<'a>(scope: &Scope<'a>, k: u16, mode: &'a Mode) -> Option<&'a Mode>
-    ensures { option_copied result ≡ modules.part_mode scope.now.records.now k (out-Mode mode.now) }
-{
-    match mode {
-        Mode::Record(r) => scope.field_mode(*r, k),
-        Mode::Array(count, element) => {
-            if k < *count {
-                Some(element.get())
-            } else {
-                None
-            }
-        }
-        _ => None,
     }
 }

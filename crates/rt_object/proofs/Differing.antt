@@ -18,7 +18,7 @@ some_is x y e = cc
 -- ---- places of a list with one more behind it
 
 module _ {A : Type 0} where
-  at_push : (xs : List A) (x y : A) (i : ℕ) → slice_get (xs ++ x ∷ []) i ≡ Some y → (slice_get xs i ≡ Some y) ⊎ ((i ≡ length xs) × (x ≡ y))
+  pub at_push : (xs : List A) (x y : A) (i : ℕ) → slice_get (xs ++ x ∷ []) i ≡ Some y → (slice_get xs i ≡ Some y) ⊎ ((i ≡ length xs) × (x ≡ y))
   at_push [] x y zero e = inr (refl, some_is x y e)
   at_push [] x y (suc i) e = absurd cc
   at_push (u ∷ xs) x y zero e = inl e
@@ -29,7 +29,7 @@ module _ {A : Type 0} where
   front_at (u ∷ xs) more zero y e = e
   front_at (u ∷ xs) more (suc i) y e = front_at xs more i y e
 
-  behind_at : (xs more : List A) (x : A) → slice_get (xs ++ x ∷ more) (length xs) ≡ Some x
+  pub behind_at : (xs more : List A) (x : A) → slice_get (xs ++ x ∷ more) (length xs) ≡ Some x
   behind_at [] more x = refl
   behind_at (u ∷ xs) more x = behind_at xs more x
 
@@ -65,7 +65,7 @@ new_where (u ∷ names) n h =
       | inr k ↦ rw k rest
     ]
 
-different_push : (names : List (List ℕ)) (n : List ℕ) → AreDifferent names → is_new names n ≡ true → AreDifferent (names ++ n ∷ [])
+pub different_push : (names : List (List ℕ)) (n : List ℕ) → AreDifferent names → is_new names n ≡ true → AreDifferent (names ++ n ∷ [])
 different_push names n h new = λ i j m o below e f same. by i j m o below (at_push names n m i e) (at_push names n o j f) same
   where
     by : (i j : ℕ) (m o : List ℕ) → i < j → ((slice_get names i ≡ Some m) ⊎ ((i ≡ length names) × (n ≡ m))) → ((slice_get names j ≡ Some o) ⊎ ((j ≡ length names) × (n ≡ o))) → m ≡ o → ⊥
@@ -74,7 +74,7 @@ different_push names n h new = λ i j m o below e f same. by i j m o below (at_p
     by i j m o below (inr e) (inl f) same = let within = slice_get_within names j o f in let at = e.0 in absurd (omega arith)
     by i j m o below (inr e) (inr f) same = let at = e.0 in let at' = f.0 in absurd (omega arith)
 
-new_behind : (names more : List (List ℕ)) (n : List ℕ) → AreDifferent (names ++ n ∷ more) → is_new names n ≡ true
+pub new_behind : (names more : List (List ℕ)) (n : List ℕ) → AreDifferent (names ++ n ∷ more) → is_new names n ≡ true
 new_behind names more n h = new_where names n (λ i m e f. h i (length names) m n (slice_get_within names i m e) (front_at names (n ∷ more) i m e) (behind_at names more n) f)
 
 pub no_names : AreDifferent []
@@ -105,7 +105,7 @@ module _ {A : Type 0} (name : A → List ℕ) (S : A → Type 0) where
 
 -- ---- numbers that rise
 
-rise_push : (ns : List ℕ) (n : ℕ) → Rise ns → ((i m : ℕ) → slice_get ns i ≡ Some m → m < n) → Rise (ns ++ n ∷ [])
+pub rise_push : (ns : List ℕ) (n : ℕ) → Rise ns → ((i m : ℕ) → slice_get ns i ≡ Some m → m < n) → Rise (ns ++ n ∷ [])
 rise_push ns n h less = λ i j m o below e f. by i j m o below (at_push ns n m i e) (at_push ns n o j f)
   where
     by : (i j m o : ℕ) → i < j → ((slice_get ns i ≡ Some m) ⊎ ((i ≡ length ns) × (n ≡ m))) → ((slice_get ns j ≡ Some o) ⊎ ((j ≡ length ns) × (n ≡ o))) → m < o
@@ -114,7 +114,7 @@ rise_push ns n h less = λ i j m o below e f. by i j m o below (at_push ns n m i
     by i j m o below (inr e) (inl f) = let within = slice_get_within ns j o f in let at = e.0 in absurd (omega arith)
     by i j m o below (inr e) (inr f) = let at = e.0 in let at' = f.0 in absurd (omega arith)
 
-rise_behind : (ns more : List ℕ) (n : ℕ) → Rise (ns ++ n ∷ more) → (i m : ℕ) → slice_get ns i ≡ Some m → m < n
+pub rise_behind : (ns more : List ℕ) (n : ℕ) → Rise (ns ++ n ∷ more) → (i m : ℕ) → slice_get ns i ≡ Some m → m < n
 rise_behind ns more n h i m e = h i (length ns) m n (slice_get_within ns i m e) (front_at ns (n ∷ more) i m e) (behind_at ns more n)
 
 pub no_numbers : Rise []

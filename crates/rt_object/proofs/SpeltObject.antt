@@ -109,11 +109,11 @@ proc_kind_back (Ext external.Stack) e = absurd e
 proc_kind_back (Svc (supplied.Proc m)) e = refl
 proc_kind_back (Svc (supplied.Data fs)) e = absurd e
 
-proc_at_is : (bricks : List Brick) (k : ℕ) (o : Option Brick) → slice_get bricks k ≡ o → is_proc_at o ≡ true → IsProcNumber bricks k
+pub proc_at_is : (bricks : List Brick) (k : ℕ) (o : Option Brick) → slice_get bricks k ≡ o → is_proc_at o ≡ true → IsProcNumber bricks k
 proc_at_is bricks k None is e = absurd cc
 proc_at_is bricks k (Some b) is e = (b, is, proc_kind_is b.kind e)
 
-proc_at_back : (bricks : List Brick) (k : ℕ) → IsProcNumber bricks k → is_proc_at (slice_get bricks k) ≡ true
+pub proc_at_back : (bricks : List Brick) (k : ℕ) → IsProcNumber bricks k → is_proc_at (slice_get bricks k) ≡ true
 proc_at_back bricks k (b, is, kind) = subst (λ o. is_proc_at o ≡ true) (sym is) (proc_kind_back b.kind kind)
 
 above_is : (before : List ℕ) (k : ℕ) → not (list_any (λ m. leb k m) before) ≡ true → (i m : ℕ) → slice_get before i ≡ Some m → m < k

@@ -39,10 +39,10 @@ use Rattle.rt_object.proofs.Spelt.{few_spelled, Spelt, spelt_name, spelt_block, 
 pub spelt_mode : (records : ℕ) → records ≤ 2 ^ 16 → Spelt (mode_format records) spelling (MayStand records)
 spelt_mode records small = record { spelled = record { there = fits_stands records; back = stands_fits records }; bytes = mode_bytes records small }
 
-no_label_is : (m : Mode) → is_no_label m ≡ true → IsNoLabel m
+pub no_label_is : (m : Mode) → is_no_label m ≡ true → IsNoLabel m
 no_label_is m e label = let bad : false ≡ true = subst (λ l. is_no_label_layer l ≡ true) label e in cc
 
-no_label_layer : (l : Mode-F Mode) → (l ≡ Mode-F.Label → ⊥) → is_no_label_layer l ≡ true
+pub no_label_layer : (l : Mode-F Mode) → (l ≡ Mode-F.Label → ⊥) → is_no_label_layer l ≡ true
 no_label_layer Mode-F.Label h = absurd (h refl)
 no_label_layer Mode-F.Byte h = refl
 no_label_layer Mode-F.Int h = refl
@@ -72,7 +72,7 @@ in_rrerr_back n m h = elim (either_way (is_rrerr n)) [
 no_label_back : (m : Mode) → IsNoLabel m → may_be false m ≡ true
 no_label_back m h = no_label_layer (out-Mode m) h
 
-proc_is : (l : Mode-F Mode) → is_proc_layer l ≡ true → IsProcLayer l
+pub proc_is : (l : Mode-F Mode) → is_proc_layer l ≡ true → IsProcLayer l
 proc_is Mode-F.Label h = absurd cc
 proc_is Mode-F.Byte h = absurd cc
 proc_is Mode-F.Int h = absurd cc
@@ -83,7 +83,7 @@ proc_is (Mode-F.Array n m) h = absurd cc
 proc_is (Mode-F.Record k) h = absurd cc
 proc_is (Mode-F.Proc ps r) h = tt
 
-proc_back : (l : Mode-F Mode) → IsProcLayer l → is_proc_layer l ≡ true
+pub proc_back : (l : Mode-F Mode) → IsProcLayer l → is_proc_layer l ≡ true
 proc_back Mode-F.Label h = absurd h
 proc_back Mode-F.Byte h = absurd h
 proc_back Mode-F.Int h = absurd h
@@ -94,7 +94,7 @@ proc_back (Mode-F.Array n m) h = absurd h
 proc_back (Mode-F.Record k) h = absurd h
 proc_back (Mode-F.Proc ps r) h = refl
 
-value_is : (l : Mode-F Mode) → is_value_layer l ≡ true → IsValueLayer l
+pub value_is : (l : Mode-F Mode) → is_value_layer l ≡ true → IsValueLayer l
 value_is Mode-F.Label h = absurd cc
 value_is Mode-F.Byte h = tt
 value_is Mode-F.Int h = tt
@@ -105,7 +105,7 @@ value_is (Mode-F.Array n m) h = absurd cc
 value_is (Mode-F.Record k) h = tt
 value_is (Mode-F.Proc ps r) h = tt
 
-value_back : (l : Mode-F Mode) → IsValueLayer l → is_value_layer l ≡ true
+pub value_back : (l : Mode-F Mode) → IsValueLayer l → is_value_layer l ≡ true
 value_back Mode-F.Label h = absurd h
 value_back Mode-F.Byte h = refl
 value_back Mode-F.Int h = refl

@@ -177,7 +177,8 @@ fn read_supplied<'b>(
     }
 }
 
-fn is_rrerr(name: &Name) -> bool
+/// Whether a name is RRERR, that of the data brick where labels stand.
+pub fn is_rrerr(name: &Name) -> bool
     ensures { result ≡ is_rrerr name.now }
 {
     name.as_slice() == b"RRERR".as_slice()

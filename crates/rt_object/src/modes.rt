@@ -62,7 +62,8 @@ pub fn read_value_mode(alloc: Global, records: u16, bytes: &[u8]) -> Result<(Mod
     }
 }
 
-fn is_no_label(mode: &Mode) -> bool
+/// Whether a mode is no label.
+pub fn is_no_label(mode: &Mode) -> bool
     ensures { result ≡ is_no_label mode.now }
 {
     match mode {
@@ -71,7 +72,8 @@ fn is_no_label(mode: &Mode) -> bool
     }
 }
 
-fn is_proc(mode: &Mode) -> bool
+/// Whether a mode is that of a procedure.
+pub fn is_proc(mode: &Mode) -> bool
     ensures { result ≡ is_proc mode.now }
 {
     match mode {
@@ -80,7 +82,8 @@ fn is_proc(mode: &Mode) -> bool
     }
 }
 
-fn is_value(mode: &Mode) -> bool
+/// Whether a mode is that of a value that stands alone: no array and no label.
+pub fn is_value(mode: &Mode) -> bool
     ensures { result ≡ is_value mode.now }
 {
     match mode {

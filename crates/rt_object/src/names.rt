@@ -32,7 +32,7 @@ pub fn read_new_name<'b>(
 }
 
 /// Notes a name; false where it is among those so far.
-fn note(alloc: Global, names: &mut Names, name: &[u8]) -> Result<bool, Memory>
+pub fn note(alloc: Global, names: &mut Names, name: &[u8]) -> Result<bool, Memory>
     ensures new { (before : List (List ℕ)) → Knows names.old before → IfOk result (λ b. b ≡ is_new before name.now) }
     ensures known { (before : List (List ℕ)) → Knows names.old before → IfOk result (λ b. Knows names.new (before ++ name.now ∷ [])) }
 {

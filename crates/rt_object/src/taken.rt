@@ -75,7 +75,8 @@ fn is_taken(bricks: &[Brick], least: usize, _before: &[u16], number: u16) -> boo
     least <= number && is_proc_at(bricks, number)
 }
 
-fn is_proc_at(bricks: &[Brick], number: usize) -> bool
+/// Whether a number is that of a procedure, of any kind.
+pub fn is_proc_at(bricks: &[Brick], number: usize) -> bool
     ensures { result ≡ is_proc_at (slice_get bricks.now number) }
 {
     match bricks.get(number) {

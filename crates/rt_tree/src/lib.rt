@@ -22,4 +22,4 @@ pub use rt_tree_nodes::{
     suits_as,
 };
 pub use standing::Standing;
-pub use starts::shared_mode;
+pub use starts::{part_mode, shared_mode};

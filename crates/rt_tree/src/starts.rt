@@ -151,7 +151,8 @@ fn mode_along<'a>(scope: &Scope<'a>, path: &[u16], mode: &'a Mode) -> Option<&'a
     Some(inner)
 }
 
-fn part_mode<'a>(scope: &Scope<'a>, k: u16, mode: &'a Mode) -> Option<&'a Mode>
+/// The mode of field `k` of a record, or of element `k` of an array, from 0.
+pub fn part_mode<'a>(scope: &Scope<'a>, k: u16, mode: &'a Mode) -> Option<&'a Mode>
     ensures { option_copied result ≡ modules.part_mode scope.now.records.now k (out-Mode mode.now) }
 {
     match mode {
