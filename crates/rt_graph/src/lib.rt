@@ -27,4 +27,4 @@ pub use rt_tree_nodes::Proc;
 pub use sorting::order;
 pub use stacks::check_stacks;
 pub use sums::needs;
-pub use tasks::roots;
+pub use tasks::{entry_named, root_named, roots, stack_named};

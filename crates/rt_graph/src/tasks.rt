@@ -92,8 +92,8 @@ fn is_int(mode: &Mode) -> bool
     matches!(mode, Mode::Int)
 }
 
-/// The first ENT brick of a name.
-fn entry_named<'o>(objects: &'o [Object], name: &[u8]) -> Option<(Proc, &'o Content)>
+/// The first ENT brick of a name, by module and declaration, and what it holds.
+pub fn entry_named<'o>(objects: &'o [Object], name: &[u8]) -> Option<(Proc, &'o Content)>
     requires { length objects.now ≤ 64 }
     ensures { option_map (λ x. (x.0, x.1.now)) result ≡ spec.entry_named objects.now name.now }
 {

@@ -1,11 +1,9 @@
-//! The printed texts: fault lines, and reports.
+//! The printed texts: fault lines, and reports, in lines of `rt_report_lines`.
 #![tactic(auto)]
 
 mod fault;
 mod faults;
-mod line;
 mod reports;
-mod word;
 
 pub use fault::{FaultLine, FileKind, Form, ProcName, TextFault};
 pub use faults::{fault_line, fault_status, refusal_report};

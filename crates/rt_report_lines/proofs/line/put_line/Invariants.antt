@@ -1,6 +1,6 @@
 use Rattle.std.proofs.Common.{◌≡◌, ◌++◌, ◌+◌, ◌≤◌, drop, length}
-use Rattle.rt_report.specs.Lines.{behind, texts_of}
-use Rattle.rt_report.proofs.line.put_line.Given as goal
+use Rattle.rt_report_lines.specs.Lines.{behind, texts_of}
+use Rattle.rt_report_lines.proofs.line.put_line.Given as goal
 
 -- What is written and what is left are all of it, and no more room than that was taken.
 abbrev pub invariant-loop-word : goal.invariant-loop-word

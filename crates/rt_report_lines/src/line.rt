@@ -1,7 +1,7 @@
 //! Writing lines.
 
 ghost use Rattle.std.specs.Prelude.{◌≡◌, ◌++◌, ◌∷◌, ◌+◌, ◌≤◌, length, decimal, codes, OnOk, IsOk};
-ghost use Rattle.rt_report.specs.Lines.{behind, line, text_of, texts_of};
+ghost use Rattle.rt_report_lines.specs.Lines.{behind, line, text_of, texts_of};
 
 use crate::word::Word;
 use itoa::Buffer;

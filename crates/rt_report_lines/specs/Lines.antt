@@ -1,7 +1,7 @@
 -- Lines of words.
 use Rattle.std.specs.Prelude.{ℕ, List, [], ◌∷◌, ◌++◌, codes, decimal, map}
-use Rattle.rt_report.specs.declared.word.Word.{Word}
-use Rattle.rt_report.specs.declared.word.Word.TheVariants as word
+use Rattle.rt_report_lines.specs.declared.word.Word.{Word}
+use Rattle.rt_report_lines.specs.declared.word.Word.TheVariants as word
 
 -- each word behind a space, and the line's end
 abbrev pub behind : List (List ℕ) → List ℕ

@@ -1,6 +1,6 @@
 use Rattle.std.proofs.Common.{◌≤◌, ℕ, List, [], ◌∷◌, length, drop, arith, length-append}
-use Rattle.rt_report.specs.Lines.{behind, text_of, texts_of}
-use Rattle.rt_report.proofs.line.put_line.Goals as goal
+use Rattle.rt_report_lines.specs.Lines.{behind, text_of, texts_of}
+use Rattle.rt_report_lines.proofs.line.put_line.Goals as goal
 
 some_left : (ws : List (List ℕ)) → 1 ≤ length (behind ws)
 some_left [] = omega arith
