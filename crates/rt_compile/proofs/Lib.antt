@@ -1,0 +1,6 @@
+mod Apart
+mod Lists
+mod OneLayout
+mod OneTaken
+mod OneObject
+mod Answered

@@ -1,0 +1,4 @@
+pub mod Objects
+pub mod Walks
+pub mod Texts
+pub mod Laws
