@@ -1,6 +1,8 @@
 -- What follows from an answer.
-use Rattle.std.proofs.Common.{◌≡◌, inl, inr, ℕ, ◌≤◌, Bool, true, false, if◌then◌else◌, List, [], ◌∷◌, refl, arith}
-use Rattle.std.specs.Prelude.{codes}
+use Rattle.std.proofs.Common.{◌≡◌, inl, inr, ℕ, ◌≤◌, Bool, true, false, if◌then◌else◌, List, [], ◌∷◌, Option, Some, None, refl, sym, ap, subst, arith}
+use Rattle.std.specs.Prelude.{codes, option_map}
+use Rattle.rt_compile.specs.declared.fault.CompileFault.{CompileFault}
+use Rattle.rt_compile.specs.declared.fault.CompileFault.TheVariants as compile
 use Rattle.rt_deeds.specs.Deeds.{Deed, Writes, Puts, Outside, IsLater, Performed}
 use Rattle.rt_deeds.proofs.Changes.{later}
 use Rattle.rt_report.specs.declared.fault.FaultLine.{FaultLine}
@@ -12,9 +14,14 @@ use Rattle.rt_run.specs.declared.machine.End.{End}
 use Rattle.rt_run.specs.declared.machine.End.TheVariants.{Ended, Limit, Stalled, Fault, ReadFault, WriteFault}
 use Rattle.rt_words.specs.Causes.{Rose}
 use Rattle.rt_top.specs.Calls.{Call, before, after, NothingDone, Does, Says, Answers, all_done, one_failed}
-use Rattle.rt_top.specs.Reading.{missing, too_long, RefusesImage, RefusesObject, RefusesTicks}
+use Rattle.rt_top.specs.Compiling.{Named, IsCompiled, CompileEnds}
+use Rattle.rt_top_files.specs.declared.faulting.Told.{Told}
+use Rattle.rt_top_files.specs.declared.faulting.Told.TheVariants as told
+use Rattle.rt_top_files.specs.Faulting.{items_told, check_told, told_line, line_of}
+use Rattle.rt_top.specs.FileEnds.{FileEnds}
+use Rattle.rt_top_files.specs.Reading.{missing, too_long, RefusesImage, RefusesModule, RefusesObject, RefusesTicks}
 use Rattle.rt_top.specs.Running.{Asked, Refuses, RunEnds, no_memory, refused, unread, carried}
-use Rattle.rt_top.specs.Showing.{ShowEnds}
+use Rattle.rt_top.specs.Showing.{IsShown, ShowEnds}
 use Rattle.rt_top.specs.Top.{HasReadFault, HasWriteFault}
 use Rattle.rt_top.proofs.Ends.{rose_on}
 use Rattle.rt_top.proofs.Leaves.{has_failed}
@@ -121,11 +128,41 @@ object_refused c name f (RefusesObject.other_version h k) = middling c 12 (omega
 said : (c : Call) (text : List ℕ) (n status : ℕ) → Says text n c status → Caused c n → Caused c status
 said c text n status h k = done_or_failed c (Puts text) n status (before c) (same (before c)) h.tells k
 
+pub file_caused : (c : Call) (IsInTurn : List ℕ → Type 0) (Refuses : FaultLine → Type 0) (IsCarried : ℕ → Type 0) → ((f : FaultLine) → Refuses f → Caused c (status_of f)) → ((n : ℕ) → IsCarried n → Caused c n) → (status : ℕ) → FileEnds IsInTurn Refuses IsCarried c status → Caused c status
+file_caused c IsInTurn Refuses IsCarried by_fault by_carried status (FileEnds.no_memory h) = by_memory c 30 refl h
+file_caused c IsInTurn Refuses IsCarried by_fault by_carried status (FileEnds.refused {f = f} h k) = said c (fault_text f) (status_of f) status k (by_fault f h)
+file_caused c IsInTurn Refuses IsCarried by_fault by_carried status (FileEnds.unread {name = name} turn rose k) = said c (fault_text (fault.Unread name)) 20 status k (by_read c 20 refl (HasReadFault.read name rose))
+file_caused c IsInTurn Refuses IsCarried by_fault by_carried status (FileEnds.accepted h) = by_carried status h
+
 pub show_caused : (c : Call) (name : List ℕ) (status : ℕ) → ShowEnds c name status → Caused c status
-show_caused c name status (ShowEnds.no_memory h) = by_memory c 30 refl h
-show_caused c name status (ShowEnds.refused {f = f} h k) = said c (fault_text f) (status_of f) status k (object_refused c name f h)
-show_caused c name status (ShowEnds.unread rose k) = said c (fault_text (fault.Unread name)) 20 status k (by_read c 20 refl (HasReadFault.read name rose))
-show_caused c name status (ShowEnds.shown {text = text} has is k) = said c text 0 status k (small c 0 (omega arith))
+show_caused c name status h = file_caused c (λ n. n ≡ name) (RefusesObject c.files name) (IsShown c name) (object_refused c name) (λ n k. said c k.text 0 n k.put (small c 0 (omega arith))) status h
+
+-- ---- modules
+
+abbrev status_or : Option FaultLine → ℕ
+status_or None = 11
+status_or (Some f) = status_of f
+
+told_status : (name : List ℕ) (o : Option Told) (f : FaultLine) → option_map (told_line name) o ≡ Some f → status_of f ≡ 11
+told_status name None f e = absurd cc
+told_status name (Some (told.Text t l)) f e = ap status_or (sym e)
+told_status name (Some (told.LeftOut t l)) f e = ap status_or (sym e)
+
+line_status : (name : List ℕ) (why : CompileFault) (f : FaultLine) → line_of name why ≡ Some f → status_of f ≡ 11
+line_status name compile.Memory f e = absurd cc
+line_status name (compile.Text t) f e = told_status name (items_told t) f e
+line_status name (compile.Syntax l) f e = ap status_or (sym e)
+line_status name (compile.Check t) f e = told_status name (check_told t) f e
+line_status name (compile.ProcTooLong p) f e = ap status_or (sym e)
+line_status name compile.Beyond f e = absurd cc
+
+module_refused : (c : Call) (name : List ℕ) (f : FaultLine) → RefusesModule c.files name f → Caused c (status_of f)
+module_refused c name f (RefusesModule.no_file (missing h)) = by_read c 20 refl (HasReadFault.missing name h)
+module_refused c name f (RefusesModule.no_file (too_long h)) = middling c 11 (omega arith) (omega arith)
+module_refused c name f (RefusesModule.no_module why h k e) = subst (Caused c) (sym (line_status name why f e)) (middling c 11 (omega arith) (omega arith))
+
+pub compile_caused : (c : Call) (n : Named) (status : ℕ) → CompileEnds c n status → Caused c status
+compile_caused c n status h = file_caused c (λ m. m ≡ n.source) (RefusesModule c.files n.source) (IsCompiled c n) (module_refused c n.source) (λ m k. done_or_failed c (Writes n.object k.bytes) 0 m (before c) (same (before c)) k.written (small c 0 (omega arith))) status h
 
 -- ---- words that no command has
 

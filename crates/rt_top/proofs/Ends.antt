@@ -1,19 +1,21 @@
--- How `run` and `show` end, from the moments of its steps.
+-- How commands end, from the moments of their steps.
 use Rattle.std.proofs.Common.{◌≡◌, ◌⊎◌, inl, inr, ℕ, ◌≤◌, List, [], Option, refl, sym, subst, ◌∙◌, arith}
-use Rattle.rt_deeds.specs.Deeds.{Deed, Outside}
+use Rattle.rt_deeds.specs.Deeds.{Deed, Puts, Outside}
 use Rattle.rt_deeds.proofs.Changes.{earlier}
 use Rattle.rt_image.specs.declared.image.ImageParts.{ImageParts}
 use Rattle.rt_outside.specs.Files.{Files}
 use Rattle.rt_report.specs.declared.fault.FaultLine.{FaultLine}
 use Rattle.rt_report.specs.declared.fault.FaultLine.TheVariants as fault
 use Rattle.rt_words.specs.Causes.{Rose}
-use Rattle.rt_top.specs.declared.reading.Unaccepted.{Unaccepted}
-use Rattle.rt_top.specs.declared.reading.Unaccepted.TheVariants.{Refused, Failed}
+use Rattle.rt_top_files.specs.declared.reading.Unaccepted.{Unaccepted}
+use Rattle.rt_top_files.specs.declared.reading.Unaccepted.TheVariants.{Memory, Refused, Failed}
 use Rattle.rt_report.specs.Faults.{status_of, fault_text}
-use Rattle.rt_top.specs.Calls.{Call, outside, Does, Says}
-use Rattle.rt_top.specs.Reading.{RefusesObject, IsUnaccepted}
+use Rattle.rt_run.specs.Inputs.{Feed}
+use Rattle.rt_top.specs.Calls.{Call, the_call, outside, Does, Says, Tells}
+use Rattle.rt_top.specs.FileEnds.{Declines, FileEnds}
+use Rattle.rt_top_files.specs.Reading.{IsUnaccepted, IsDeclined}
 use Rattle.rt_top.specs.Running.{Asked, IsInTurn, IsRefused, IsRefusal, IsCarried, RunEnds, refused, unread}
-use Rattle.rt_top.specs.Showing.{ShowEnds}
+use Rattle.rt_top.proofs.Leaves.{keeps_by}
 
 -- counts that rose stay so
 pub rose_on : (a b c : ℕ) → Rose a b → b ≤ c → Rose a c
@@ -55,9 +57,6 @@ left_by Ends status Wanted Told p q (inr h) = q h
 pub run_left : (d : Call) (r : Asked) (status : ℕ) (Wanted Told : Type 0) → (Wanted → RunEnds d r 30) → (Told → RunEnds d r status) → ((status ≡ 30) × Wanted) ⊎ Told → RunEnds d r status
 run_left d r status Wanted Told p q h = left_by (RunEnds d r) status Wanted Told p q h
 
-pub show_left : (d : Call) (name : List ℕ) (status : ℕ) (Wanted Told : Type 0) → (Wanted → ShowEnds d name 30) → (Told → ShowEnds d name status) → ((status ≡ 30) × Wanted) ⊎ Told → ShowEnds d name status
-show_left d name status Wanted Told p q h = left_by (ShowEnds d name) status Wanted Told p q h
-
 -- ---- run
 
 -- why files aren't accepted: a fault that refuses them, or one that tells of a failed read, whose count has risen since
@@ -71,13 +70,37 @@ module _ (d : Call) (now : List ℕ → ℕ) (r : Asked) (f : FaultLine) (status
       by : ((name : List ℕ) × (f ≡ fault.Unread name) × IsInTurn d.files r name × Rose (d.reads name) (now name)) → RunEnds d r status
       by (name, is, turn, rose) = unread {name = name} {status = status} turn (rose_on (d.reads name) (now name) (d.reads_after name) rose (later name)) (subst (λ g. IsRefusal d r g status) is k)
 
--- ---- show
+-- ---- commands that read one file
 
-module _ (d : Call) (name : List ℕ) (f : FaultLine) (status : ℕ) where
-  pub object_refused : (u : Unaccepted) → u ≡ Refused f → IsUnaccepted (RefusesObject d.files name) name d.reads d.reads_after u → Says (fault_text f) (status_of f) d status → ShowEnds d name status
-  object_refused u e h k = ShowEnds.refused {f = f} {status = status} (subst (IsUnaccepted (RefusesObject d.files name) name d.reads d.reads_after) e h) k
+-- the same of one file
+pub one_file : (name : List ℕ) (Refuses : FaultLine → Type 0) (reads reads2 : List ℕ → ℕ) (u : Unaccepted) → IsUnaccepted Refuses name reads reads2 u → IsDeclined (λ n. n ≡ name) Refuses reads reads2 u
+one_file name Refuses reads reads2 Memory h = tt
+one_file name Refuses reads reads2 (Refused f) h = h
+one_file name Refuses reads reads2 (Failed f) h = (name, refl, h.0, h.1)
 
-  pub object_unread : (u : Unaccepted) → u ≡ Failed f → IsUnaccepted (RefusesObject d.files name) name d.reads d.reads_after u → Says (fault_text f) (status_of f) d status → ShowEnds d name status
-  object_unread u e h k =
-      let both = subst (IsUnaccepted (RefusesObject d.files name) name d.reads d.reads_after) e h in
-      ShowEnds.unread {status = status} both.1 (subst (λ g. Says (fault_text g) (status_of g) d status) both.0 k)
+-- a file isn't accepted, once files were read
+module _ (IsInTurn : List ℕ → Type 0) (Refuses : FaultLine → Type 0) (IsCarried : ℕ → Type 0) (files files2 : Option Files) (reads reads2 writes writes2 : List ℕ → ℕ) (written written2 : Option (List ℕ)) (faults faults2 : ℕ) (left : Feed) (input_faults status : ℕ) where
+  abbrev the : Call
+  the = the_call files files2 reads reads2 writes writes2 written written2 faults faults2 left left input_faults input_faults
+
+  abbrev Ends : ℕ → Type 0
+  Ends = FileEnds IsInTurn Refuses IsCarried the
+
+  wanted : files2 ≡ files → written2 ≡ written → status ≡ 30 → Ends status
+  wanted e w s = subst Ends (sym s) (FileEnds.no_memory (record { files = e; written = keeps_by written written2 w; input = record { left = refl; faults = refl } }))
+
+  said : (f : FaultLine) → files2 ≡ files → ((m : List ℕ) → writes m ≤ writes2 m) → Tells (fault_text f) (status_of f) (outside files2 writes2 written faults) (outside files2 writes2 written2 faults2) status → Says (fault_text f) (status_of f) the status
+  said f e later t = record {
+    tells = done_from (Puts (fault_text f)) (status_of f) files files2 writes writes2 written faults (outside files2 writes2 written2 faults2) status e later t;
+    input = record { left = refl; faults = refl };
+  }
+
+  pub declined : (u : Unaccepted) → files2 ≡ files → ((m : List ℕ) → writes m ≤ writes2 m) → IsDeclined IsInTurn Refuses reads reads2 u → Declines u (outside files2 writes2 written faults) (outside files2 writes2 written2 faults2) status → Ends status
+  declined Memory e later h (s, kept) = wanted e kept.written s
+  declined (Refused f) e later h (inl (s, kept)) = wanted e kept.written s
+  declined (Refused f) e later h (inr t) = FileEnds.refused {f = f} {status = status} h (said f e later t)
+  declined (Failed f) e later h (inl (s, kept)) = wanted e kept.written s
+  declined (Failed f) e later (name, turn, is, rose) (inr t) = FileEnds.unread {name = name} {status = status} turn rose (subst (λ g. Says (fault_text g) (status_of g) the status) is (said f e later t))
+
+  pub kept_still : files2 ≡ files → written2 ≡ written → Ends 30
+  kept_still e w = FileEnds.no_memory (record { files = e; written = keeps_by written written2 w; input = record { left = refl; faults = refl } })

@@ -1,4 +1,3 @@
-pub mod Accepts
 pub mod Leaves
 pub mod Counts
 pub mod Ends

@@ -1,5 +1,6 @@
 pub mod Calls
-pub mod Reading
+pub mod Compiling
+pub mod FileEnds
 pub mod Running
 pub mod Showing
 pub mod Top

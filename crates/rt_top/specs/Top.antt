@@ -9,6 +9,7 @@ use Rattle.rt_first_go.specs.Words.{Go, IsGo}
 use Rattle.rt_outside.specs.Files.{IsTold, Lacks}
 use Rattle.rt_words.specs.Causes.{Rose}
 use Rattle.rt_top.specs.Calls.{Call, without_input, KeepsInput, NothingDone, Says}
+use Rattle.rt_top.specs.Compiling.{Named, IsCompile, CompileEnds}
 use Rattle.rt_top.specs.Running.{Asked, IsRun, RunEnds}
 use Rattle.rt_top.specs.Showing.{IsShow, ShowEnds}
 
@@ -19,6 +20,7 @@ asked_go w = record { system = w.first.now; ticks = w.second.now; limit = w.limi
 -- the commands that are built
 abbrev pub IsBuilt : Command → Type 0
 IsBuilt (command.Go system ticks limit name) = Unit {0}
+IsBuilt (command.Compile source object) = Unit {0}
 IsBuilt (command.Run image ticks limit report) = Unit {0}
 IsBuilt (command.Show object) = Unit {0}
 IsBuilt _ = ⊥
@@ -49,6 +51,7 @@ pub data HasWriteFault (c : Call) : Type 0 where
 
 pub record Headline (words : List (List ℕ)) (c : Call) (status : ℕ) : Type 0 where
   pub goes : (g : Go) → IsGo words g → Goes words c status
+  pub compiles : (n : Named) → IsCompile words n → CompileEnds c n status
   pub runs : (r : Asked) → IsRun words r → RunEnds c r status
   pub shows : (name : List ℕ) → IsShow words name → ShowEnds c name status
   pub none : IsNoCommand words → Says words_line 10 c status

@@ -6,6 +6,7 @@ ghost use Rattle.rt_top.specs.Calls.{the_call};
 ghost use Rattle.rt_first_go.specs.GoWords.{go_of};
 ghost use Rattle.rt_top.specs.Top.{asked_go, Headline};
 
+use crate::compiling::compile;
 use crate::reporting::tell;
 use crate::running::run;
 use crate::showing::show;
@@ -23,6 +24,8 @@ const WORDS_FAULT: &[u8] = b"FAULT 10\n";
 /// Does what the words say, and answers the status.
 ///
 /// - `go SYSTEM TICKS LIMIT NAME` compiles, links and runs a system of the first form: [`rt_first_go::go`].
+/// - `compile SOURCE OBJECT` compiles a module's text, and writes its object. It answers 0 then, 11 and 20 where the file is refused,
+///   whose fault line is put, 21 where the file or the output can't be written, and 30 for want of memory.
 /// - `run IMAGE TICKS LIMIT REPORT` runs an image under ticks, with `input` and `output` as its console, and writes the report of
 ///   the run. It answers 0 where all tasks ended without error, 1 where they ended and one with an error, 2 at the limit, 3 where
 ///   the run is stalled, 4 where an instruction faults, 13 and 15 where a file is refused, 20 and 21 where a count of faults says
@@ -51,6 +54,7 @@ pub fn top<S: Store, I: Source, O: Sink>(
     };
     match lent {
         CommandWords::Go(timed) => go(alloc, &go_words(timed), store, output),
+        CommandWords::Compile(source, object) => compile(alloc, source, object, store, output),
         CommandWords::Run(timed) => run(alloc, &timed, store, input, output),
         CommandWords::Show(object) => show(alloc, object, store, output),
         _ => tell(output, WORDS_FAULT, WRONG_WORDS),

@@ -4,11 +4,13 @@ ghost use Rattle.std.specs.Prelude.{◌≡◌, ◌≤◌, ◌⊎◌, ℕ, List, 
 ghost use Rattle.rt_outside.specs.Files.{Files};
 ghost use Rattle.rt_report.specs.Faults.{status_of, refusal_text};
 ghost use Rattle.rt_top.specs.Calls.{outside, IsKept, Reports, Tells};
+ghost use Rattle.rt_top.specs.FileEnds.{Complains, Declines};
 
 use rt_deeds::{Deed, perform};
 use rt_outside::{Sink, Store, put_all};
-use rt_report::{FaultLine, fault_status, refusal_report};
-use rt_words::Text;
+use rt_report::{FaultLine, fault_line, fault_status, refusal_report};
+use rt_top_files::Unaccepted;
+use rt_words::{Bytes, Text};
 use std::alloc::Global;
 
 /// The status where a file or the output can't be written.
@@ -16,6 +18,27 @@ const UNWRITTEN: u8 = 21;
 
 /// The status where memory is wanted.
 pub const NO_MEMORY: u8 = 30;
+
+/// The status where all was done.
+pub const DONE: u8 = 0;
+
+/// Writes a file, and answers this status where that succeeds.
+pub fn write_file<S: Store, O: Sink>(
+    store: &mut S,
+    output: &mut O,
+    name: &str,
+    bytes: Bytes,
+    status: u8,
+) -> u8
+    ensures reports { Reports name.now bytes status (outside (S.files store.old) (S.write_faults store.old) (O.written output.old) (O.faults output.old)) (outside (S.files store.new) (S.write_faults store.new) (O.written output.new) (O.faults output.new)) result }
+    ensures reads_later { (other : List ℕ) → S.read_faults store.old other ≤ S.read_faults store.new other }
+{
+    let deeds = [Deed::Write { name, bytes }];
+    match perform(store, output, &deeds) {
+        Ok(()) => status,
+        Err(_) => UNWRITTEN,
+    }
+}
 
 /// Writes a report, and answers this status where that succeeds.
 pub fn write_report<S: Store, O: Sink>(
@@ -28,14 +51,7 @@ pub fn write_report<S: Store, O: Sink>(
     ensures reports { Reports name.now text.items status (outside (S.files store.old) (S.write_faults store.old) (O.written output.old) (O.faults output.old)) (outside (S.files store.new) (S.write_faults store.new) (O.written output.new) (O.faults output.new)) result }
     ensures reads_later { (other : List ℕ) → S.read_faults store.old other ≤ S.read_faults store.new other }
 {
-    let deeds = [Deed::Write {
-        name,
-        bytes: text.into_list(),
-    }];
-    match perform(store, output, &deeds) {
-        Ok(()) => status,
-        Err(_) => UNWRITTEN,
-    }
+    write_file(store, output, name, text.into_list(), status)
 }
 
 /// Puts a text, and answers this status where that succeeds.
@@ -63,5 +79,25 @@ pub fn refuse<S: Store, O: Sink>(
     match refusal_report(alloc, fault) {
         Ok(text) => write_report(store, output, name, text, fault_status(fault)),
         Err(_) => NO_MEMORY,
+    }
+}
+
+/// Puts a fault line, and answers its status.
+fn complain<O: Sink>(alloc: Global, output: &mut O, fault: &FaultLine) -> u8
+    ensures { (files : Option Files) (writes : List ℕ → ℕ) → Complains fault.now (outside files writes (O.written output.old) (O.faults output.old)) (outside files writes (O.written output.new) (O.faults output.new)) result }
+{
+    match fault_line(alloc, fault) {
+        Ok(text) => tell(output, text.as_slice(), fault_status(fault)),
+        Err(_) => NO_MEMORY,
+    }
+}
+
+/// Puts the fault line of a file that isn't accepted, and answers its status.
+pub fn decline<O: Sink>(alloc: Global, output: &mut O, why: &Unaccepted) -> u8
+    ensures { (files : Option Files) (writes : List ℕ → ℕ) → Declines why.now (outside files writes (O.written output.old) (O.faults output.old)) (outside files writes (O.written output.new) (O.faults output.new)) result }
+{
+    match why {
+        Unaccepted::Memory => NO_MEMORY,
+        Unaccepted::Refused(fault) | Unaccepted::Failed(fault) => complain(alloc, output, fault),
     }
 }

@@ -1,31 +1,14 @@
 //! `show`: the listing of an object is put.
 
-ghost use Rattle.std.specs.Prelude.{◌≡◌, ◌≤◌, ◌⊎◌};
-ghost use Rattle.rt_report.specs.Faults.{status_of, fault_text};
-ghost use Rattle.rt_run.specs.Inputs.{feed};
-ghost use Rattle.rt_top.specs.Calls.{outside, the_call, IsKept, Tells};
+ghost use Rattle.std.specs.Prelude.{◌≡◌};
+ghost use Rattle.rt_top.specs.Calls.{the_call};
 ghost use Rattle.rt_top.specs.Showing.{ShowEnds};
 
-use crate::reading::{Unaccepted, accept_object};
-use crate::reporting::{NO_MEMORY, tell};
+use crate::reporting::{DONE, NO_MEMORY, decline, tell};
 use rt_listing::listing;
-use rt_outside::{Sink, Source, Store};
-use rt_report::{FaultLine, fault_line, fault_status};
+use rt_outside::{Sink, Store};
+use rt_top_files::accept_object;
 use std::alloc::Global;
-
-/// The status where all was done.
-const DONE: u8 = 0;
-
-/// Puts a fault line, and answers its status.
-pub fn complain<O: Sink>(alloc: Global, output: &mut O, fault: &FaultLine) -> u8
-    ensures { (files : _) (writes : _) → ((result ≡ 30) × (O.written output.new ≡ O.written output.old))
-        ⊎ Tells (fault_text fault.now) (status_of fault.now) (outside files writes (O.written output.old) (O.faults output.old)) (outside files writes (O.written output.new) (O.faults output.new)) result }
-{
-    match fault_line(alloc, fault) {
-        Ok(text) => tell(output, text.as_slice(), fault_status(fault)),
-        Err(_) => NO_MEMORY,
-    }
-}
 
 /// Does `show`, and answers its status.
 pub fn show<S: Store, O: Sink>(alloc: Global, name: &str, store: &mut S, output: &mut O) -> u8
@@ -41,8 +24,6 @@ pub fn show<S: Store, O: Sink>(alloc: Global, name: &str, store: &mut S, output:
             Ok(text) => tell(output, text.as_slice(), DONE),
             Err(_) => NO_MEMORY,
         },
-        Err(Unaccepted::Memory) => NO_MEMORY,
-        Err(Unaccepted::Refused(fault)) => complain(alloc, output, &fault),
-        Err(Unaccepted::Failed(fault)) => complain(alloc, output, &fault),
+        Err(why) => decline(alloc, output, &why),
     }
 }

@@ -1,17 +1,9 @@
-use Rattle.std.proofs.Common.{[], ◌∷◌, true, false, subst}
-use Rattle.rt_deeds.specs.Deeds.{Writes, Performed}
-use Rattle.rt_top.specs.Calls.{outside}
-use Rattle.rt_top.proofs.Leaves.{all_well, not_well}
+use Rattle.std.proofs.Common.{subst}
+use Rattle.rt_top.specs.Calls.{outside, Reports}
 use Rattle.rt_top.proofs.reporting.write_report.Goals as goal
-
-pub returns-in-Ok-clause-reports : goal.returns-in-Ok-clause-reports
-returns-in-Ok-clause-reports g c =
-    let a = outside (g.S.Store.files c.args.store.now) (g.S.Store.write_faults c.args.store.now) (g.O.Sink.written c.args.output.now) (g.O.Sink.faults c.args.output.now) in
-    let b = outside (g.S.Store.files c.perform.new.store) (g.S.Store.write_faults c.perform.new.store) (g.O.Sink.written c.perform.new.output) (g.O.Sink.faults c.perform.new.output) in
-    all_well (Writes c.args.name.now c.args.text.items) c.args.status a b (subst (λ t. Performed (Writes c.args.name.now t ∷ []) a b true) c.into_list.ensures c.in-Ok.ensures.performed)
 
 pub returns-clause-reports : goal.returns-clause-reports
 returns-clause-reports g c =
     let a = outside (g.S.Store.files c.args.store.now) (g.S.Store.write_faults c.args.store.now) (g.O.Sink.written c.args.output.now) (g.O.Sink.faults c.args.output.now) in
-    let b = outside (g.S.Store.files c.perform.new.store) (g.S.Store.write_faults c.perform.new.store) (g.O.Sink.written c.perform.new.output) (g.O.Sink.faults c.perform.new.output) in
-    not_well (Writes c.args.name.now c.args.text.items) c.args.status a b (subst (λ t. Performed (Writes c.args.name.now t ∷ []) a b false) c.into_list.ensures c.in-Err.ensures.performed)
+    let b = outside (g.S.Store.files c.write_file.new.store) (g.S.Store.write_faults c.write_file.new.store) (g.O.Sink.written c.write_file.new.output) (g.O.Sink.faults c.write_file.new.output) in
+    subst (λ t. Reports c.args.name.now t c.args.status a b c.write_file.result) c.into_list.ensures c.write_file.ensures.reports

@@ -2,13 +2,15 @@
 
 ghost use Rattle.std.specs.Prelude.{◌≡◌, ◌≤◌, ℕ, List, IfOk, IfErr};
 ghost use Rattle.rt_report.specs.declared.fault.FaultLine.TheVariants as fault;
-ghost use Rattle.rt_top.specs.Reading.{IsFile, IsNoFile, HasImage, RefusesImage, HasObject, RefusesObject, HasTicks, RefusesTicks, IsUnaccepted, IsRefusedBy, IsUnread};
+ghost use Rattle.rt_top_files.specs.Reading.{IsFile, IsNoFile, HasImage, RefusesImage, HasObject, RefusesObject, HasModule, RefusesModule, HasSystem, RefusesSystem, HasTicks, RefusesTicks, IsUnaccepted, IsRefusedBy, IsUnread};
 
+use crate::faulting::not_compiled;
+use rt_compile::compile;
 use rt_image::{Image, ImageFault, read_image};
 use rt_object::{Object, ObjectFault, read_object};
 use rt_outside::{Store, StoreError};
 use rt_report::{FaultLine, FileKind};
-use rt_system::{LineFault, Ticks, read_ticks};
+use rt_system::{LineFault, System, Ticks, read_system, read_ticks};
 use rt_words::{Bytes, Memory};
 use std::alloc::Global;
 
@@ -23,7 +25,7 @@ pub enum Unaccepted {
 }
 
 /// A copy of a file's name.
-fn name_of(alloc: Global, name: &str) -> Result<Bytes, Memory>
+pub fn name_of(alloc: Global, name: &str) -> Result<Bytes, Memory>
     ensures { IfOk result (λ b. b ≡ name.now) }
 {
     Bytes::from_slice(alloc, name.as_bytes())
@@ -140,6 +142,49 @@ pub fn accept_object<S: Store>(
             Err(ObjectFault::BadObject { at }) => Err(bad_object(alloc, name, at)),
             Err(ObjectFault::Version { found }) => Err(other_version(alloc, name, found)),
             Err(ObjectFault::Memory) => Err(Unaccepted::Memory),
+        },
+        Err(why) => Err(why),
+    }
+}
+
+/// Reads and compiles the text of a module.
+pub fn accept_module<S: Store>(
+    alloc: Global,
+    store: &mut S,
+    name: &str,
+) -> Result<Object, Unaccepted>
+    ensures ok { IfOk result (λ o. HasModule (S.files store.old) name.now o) }
+    ensures err { IfErr result (IsUnaccepted (RefusesModule (S.files store.old) name.now) name.now (S.read_faults store.old) (S.read_faults store.new)) }
+    ensures unchanged { S.files store.new ≡ S.files store.old }
+    ensures reads_later { (other : List ℕ) → S.read_faults store.old other ≤ S.read_faults store.new other }
+    ensures writes_later { (other : List ℕ) → S.write_faults store.old other ≤ S.write_faults store.new other }
+{
+    match read_file(alloc, store, name, FileKind::Module) {
+        Ok(bytes) => match compile(alloc, &bytes) {
+            Ok(object) => Ok(object),
+            Err(fault) => Err(not_compiled(alloc, name, fault)),
+        },
+        Err(why) => Err(why),
+    }
+}
+
+/// Reads the system of a file.
+pub fn accept_system<S: Store>(
+    alloc: Global,
+    store: &mut S,
+    name: &str,
+) -> Result<System, Unaccepted>
+    ensures ok { IfOk result (λ s. HasSystem (S.files store.old) name.now s) }
+    ensures err { IfErr result (IsUnaccepted (RefusesSystem (S.files store.old) name.now) name.now (S.read_faults store.old) (S.read_faults store.new)) }
+    ensures unchanged { S.files store.new ≡ S.files store.old }
+    ensures reads_later { (other : List ℕ) → S.read_faults store.old other ≤ S.read_faults store.new other }
+    ensures writes_later { (other : List ℕ) → S.write_faults store.old other ≤ S.write_faults store.new other }
+{
+    match read_file(alloc, store, name, FileKind::Lines) {
+        Ok(bytes) => match read_system(alloc, &bytes, true) {
+            Ok(system) => Ok(system),
+            Err(LineFault::BadLine { line }) => Err(bad_line(alloc, name, line)),
+            Err(_) => Err(Unaccepted::Memory),
         },
         Err(why) => Err(why),
     }

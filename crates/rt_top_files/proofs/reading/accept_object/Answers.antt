@@ -3,9 +3,9 @@ use Rattle.rt_object.specs.Grammar.{Faults}
 use Rattle.rt_object.specs.declared.fault.ObjectFault.TheVariants as object
 use Rattle.rt_report.specs.declared.fault.FaultLine.TheVariants as fault
 use Rattle.rt_report.specs.declared.fault.FileKind.TheVariants as kind
-use Rattle.rt_top.specs.Reading.{IsNoFile, RefusesObject}
-use Rattle.rt_top.proofs.Accepts.{refused, wider}
-use Rattle.rt_top.proofs.reading.accept_object.Goals as goal
+use Rattle.rt_top_files.specs.Reading.{IsNoFile, RefusesObject}
+use Rattle.rt_top_files.proofs.Accepts.{refused, wider}
+use Rattle.rt_top_files.proofs.reading.accept_object.Goals as goal
 
 pub returns-in-Err-BadObject-clause-err : goal.returns-in-Err-BadObject-clause-err
 returns-in-Err-BadObject-clause-err g c =

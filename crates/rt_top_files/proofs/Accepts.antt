@@ -1,5 +1,5 @@
 -- Why a file isn't accepted.
-use Rattle.std.proofs.Common.{◌≡◌, ℕ, List, Option, refl, sym, subst}
+use Rattle.std.proofs.Common.{◌≡◌, ℕ, List, Option, Some, refl, sym, subst}
 use Rattle.rt_outside.specs.Files.{Files, WhereTold, IsTold, Lacks, HasTooLong}
 use Rattle.rt_outside.specs.declared.store.StoreError.{StoreError}
 use Rattle.rt_outside.specs.declared.store.StoreError.TheVariants as error
@@ -7,9 +7,10 @@ use Rattle.rt_report.specs.declared.fault.FaultLine.{FaultLine}
 use Rattle.rt_report.specs.declared.fault.FaultLine.TheVariants as fault
 use Rattle.rt_report.specs.declared.fault.FileKind.{FileKind}
 use Rattle.rt_words.specs.Causes.{Rose}
-use Rattle.rt_top.specs.declared.reading.Unaccepted.{Unaccepted}
-use Rattle.rt_top.specs.declared.reading.Unaccepted.TheVariants.{Memory, Refused, Failed}
-use Rattle.rt_top.specs.Reading.{IsNoFile, missing, too_long, IsUnaccepted, IsRefusedBy, HasFailedBy, IsUnread}
+use Rattle.rt_top_files.specs.declared.reading.Unaccepted.{Unaccepted}
+use Rattle.rt_top_files.specs.declared.reading.Unaccepted.TheVariants.{Memory, Refused, Failed}
+use Rattle.rt_top_files.specs.Faulting.{IsToldBy}
+use Rattle.rt_top_files.specs.Reading.{IsNoFile, missing, too_long, IsUnaccepted, IsRefusedBy, HasFailedBy, IsUnread}
 
 module _ (name : List ℕ) (reads now : List ℕ → ℕ) where
   -- a fault that refuses the file
@@ -34,3 +35,9 @@ module _ (name : List ℕ) (reads now : List ℕ → ℕ) where
   unread files k error.TooLong u m t f h = refused (IsNoFile files k name) (fault.TooLong k name) u (too_long (t refl)) h
   unread files k error.Failed u m t f h = failed (IsNoFile files k name) u (f refl) h
   unread files k error.Memory u m t f h = subst (IsUnaccepted (IsNoFile files k name) name reads now) (sym h) tt
+
+  -- a fault of a module's text, by its line
+  pub told : (P : FaultLine → Type 0) (line : Option FaultLine) (u : Unaccepted) → ((f : FaultLine) → line ≡ Some f → P f) → IsToldBy line u → IsUnaccepted P name reads now u
+  told P line Memory h k = tt
+  told P line (Refused f) h k = h f k
+  told P line (Failed f) h k = absurd k

@@ -3,9 +3,9 @@ use Rattle.rt_image.specs.Grammar.{Faults}
 use Rattle.rt_report.specs.declared.fault.FaultLine.TheVariants as fault
 use Rattle.rt_image.specs.declared.fault.ImageFault.TheVariants as image
 use Rattle.rt_report.specs.declared.fault.FileKind.TheVariants as kind
-use Rattle.rt_top.specs.Reading.{IsNoFile, RefusesImage}
-use Rattle.rt_top.proofs.Accepts.{refused, wider}
-use Rattle.rt_top.proofs.reading.accept_image.Goals as goal
+use Rattle.rt_top_files.specs.Reading.{IsNoFile, RefusesImage}
+use Rattle.rt_top_files.proofs.Accepts.{refused, wider}
+use Rattle.rt_top_files.proofs.reading.accept_image.Goals as goal
 
 pub returns-in-Err-BadImage-clause-err : goal.returns-in-Err-BadImage-clause-err
 returns-in-Err-BadImage-clause-err g c =

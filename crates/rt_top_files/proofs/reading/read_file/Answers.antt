@@ -1,6 +1,6 @@
 use Rattle.std.proofs.Common.{ap, Err}
-use Rattle.rt_top.proofs.Accepts.{unread}
-use Rattle.rt_top.proofs.reading.read_file.Goals as goal
+use Rattle.rt_top_files.proofs.Accepts.{unread}
+use Rattle.rt_top_files.proofs.reading.read_file.Goals as goal
 
 pub returns-in-Err-clause-err : goal.returns-in-Err-clause-err
 returns-in-Err-clause-err g c =

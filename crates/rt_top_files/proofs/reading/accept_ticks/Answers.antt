@@ -3,9 +3,9 @@ use Rattle.rt_report.specs.declared.fault.FaultLine.TheVariants as fault
 use Rattle.rt_report.specs.declared.fault.FileKind.TheVariants as kind
 use Rattle.rt_system.specs.Ticks.{RefusesTicks as LineRefused}
 use Rattle.rt_system.specs.declared.fault.LineFault.TheVariants as line
-use Rattle.rt_top.specs.Reading.{IsNoFile, RefusesTicks}
-use Rattle.rt_top.proofs.Accepts.{refused, wider}
-use Rattle.rt_top.proofs.reading.accept_ticks.Goals as goal
+use Rattle.rt_top_files.specs.Reading.{IsNoFile, RefusesTicks}
+use Rattle.rt_top_files.proofs.Accepts.{refused, wider}
+use Rattle.rt_top_files.proofs.reading.accept_ticks.Goals as goal
 
 pub returns-in-Err-BadLine-clause-err : goal.returns-in-Err-BadLine-clause-err
 returns-in-Err-BadLine-clause-err g c =
