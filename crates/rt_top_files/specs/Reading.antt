@@ -1,12 +1,10 @@
 -- What a file that is read is taken for, and why one isn't.
-use Rattle.std.specs.List.{AllByRecursion}
 use Rattle.std.specs.Prelude.{◌≡◌, ℕ, ◌≤◌, true, List, length, Option, Some}
 use Rattle.rt_compile.specs.declared.fault.CompileFault.{CompileFault}
 use Rattle.rt_compile.specs.Texts.{IsObjectOfText, IsFault}
 use Rattle.rt_image.specs.declared.image.ImageParts.{ImageParts}
 use Rattle.rt_image.specs.Grammar.{IsImage, IsNoImage}
 use Rattle.rt_object.specs.declared.object.ObjectParts.{ObjectParts}
-use Rattle.rt_items.specs.Ranges.{IsByte}
 use Rattle.rt_object.specs.Grammar.{IsObject, IsNoObject, IsOfVersion}
 use Rattle.rt_outside.specs.declared.store.StoreError.{StoreError}
 use Rattle.rt_outside.specs.declared.store.StoreError.TheVariants as error
@@ -59,15 +57,15 @@ module _ (files : Option Files) where
 
   -- ---- modules
 
-  -- bytes, of which the text of a file consists, are those of a text that has this object
+  -- a file is the text of a module that has this object
   pub record HasModule (name : List ℕ) (object : ObjectParts) : Type 0 where
     pub bytes : List ℕ
     pub file : IsFile name bytes
-    pub compiled : AllByRecursion IsByte bytes → IsObjectOfText bytes object
+    pub compiled : IsObjectOfText bytes object
 
   pub data RefusesModule (name : List ℕ) : FaultLine → Type 0 where
     no_file : {f : FaultLine} → IsNoFile kind.Module name f → RefusesModule name f
-    no_module : {bytes : List ℕ} {f : FaultLine} (why : CompileFault) → IsFile name bytes → (AllByRecursion IsByte bytes → IsFault bytes why) → line_of name why ≡ Some f → RefusesModule name f
+    no_module : {bytes : List ℕ} {f : FaultLine} (why : CompileFault) → IsFile name bytes → IsFault bytes why → line_of name why ≡ Some f → RefusesModule name f
 
   -- ---- system texts, in which objects are taken
 

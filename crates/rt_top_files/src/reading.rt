@@ -1,6 +1,8 @@
 //! Reading the files that a command names.
 
 ghost use Rattle.std.specs.Prelude.{◌≡◌, ◌≤◌, ℕ, List, IfOk, IfErr};
+ghost use Rattle.std.specs.List.{AllByRecursion};
+ghost use Rattle.rt_items.specs.Ranges.{IsByte};
 ghost use Rattle.rt_report.specs.declared.fault.FaultLine.TheVariants as fault;
 ghost use Rattle.rt_top_files.specs.Reading.{IsFile, IsNoFile, HasImage, RefusesImage, HasObject, RefusesObject, HasModule, RefusesModule, HasSystem, RefusesSystem, HasTicks, RefusesTicks, IsUnaccepted, IsRefusedBy, IsUnread};
 
@@ -160,13 +162,21 @@ pub fn accept_module<S: Store>(
     ensures writes_later { (other : List ℕ) → S.write_faults store.old other ≤ S.write_faults store.new other }
 {
     match read_file(alloc, store, name, FileKind::Module) {
-        Ok(bytes) => match compile(alloc, &bytes) {
-            Ok(object) => Ok(object),
-            Err(fault) => Err(not_compiled(alloc, name, fault)),
-        },
+        Ok(bytes) => {
+            bytes_are_small(&bytes);
+            match compile(alloc, &bytes) {
+                Ok(object) => Ok(object),
+                Err(fault) => Err(not_compiled(alloc, name, fault)),
+            }
+        }
         Err(why) => Err(why),
     }
 }
+
+/// Bytes are below 256, as their type says.
+fn bytes_are_small(_bytes: &[u8])
+    ensures { AllByRecursion IsByte _bytes.now }
+{}
 
 /// Reads the system of a file.
 pub fn accept_system<S: Store>(

@@ -1,4 +1,4 @@
-use Rattle.std.proofs.Common.{subst}
+use Rattle.std.proofs.Common.{sym, ◌∙◌, subst}
 use Rattle.std.specs.List.{AllByRecursion}
 use Rattle.rt_compile.specs.Texts.{IsFault}
 use Rattle.rt_items.specs.Ranges.{IsByte}
@@ -11,7 +11,7 @@ use Rattle.rt_top_files.proofs.reading.accept_module.Goals as goal
 pub returns-in-Ok-clause-err : goal.returns-in-Ok-clause-err
 returns-in-Ok-clause-err g c =
     told c.args.name.now (g.S.Store.read_faults c.args.store.now) (g.S.Store.read_faults c.read_file.new.store) (RefusesModule (g.S.Store.files c.args.store.now) c.args.name.now) (line_of c.args.name.now c.in-Err-compile.fault) c.not_compiled.result
-    (λ f e. RefusesModule.no_module {bytes = c.in-Ok.bytes.items} {f = f} c.in-Err-compile.fault c.in-Ok.ensures.ok (subst (λ bs. AllByRecursion IsByte bs → IsFault bs c.in-Err-compile.fault) c.deref.ensures.value c.in-Err-compile.ensures.fault) e) c.not_compiled.ensures
+    (λ f e. RefusesModule.no_module {bytes = c.in-Ok.bytes.items} {f = f} c.in-Err-compile.fault c.in-Ok.ensures.ok (subst (λ bs. IsFault bs c.in-Err-compile.fault) c.deref-in-Ok.ensures.value (c.in-Err-compile.ensures.fault (subst (AllByRecursion IsByte) (c.deref.ensures.value ∙ sym c.deref-in-Ok.ensures.value) c.bytes_are_small.ensures))) e) c.not_compiled.ensures
 
 pub returns-clause-err : goal.returns-clause-err
 returns-clause-err g c =
