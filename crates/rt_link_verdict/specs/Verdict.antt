@@ -5,10 +5,11 @@ use Rattle.rt_object.specs.declared.object.Content.{Content}
 use Rattle.rt_object.specs.declared.object.Content.TheVariants as content
 use Rattle.rt_object.specs.declared.object.ObjectParts.{ObjectParts}
 use Rattle.rt_match.specs.declared.bindings.Bound.{Bound}
-use Rattle.rt_match.specs.declared.fault.MatchFault.TheVariants as matching
 use Rattle.rt_match.specs.Matching.{Match, AreBound, Fails}
 use Rattle.rt_match.specs.Signatures.{system_of}
 use Rattle.rt_system.specs.declared.parts.Task.{Task}
+use Rattle.rt_graph.specs.declared.fault.GraphFault.{GraphFault}
+use Rattle.rt_graph.specs.declared.fault.GraphFault.TheVariants as graph
 use Rattle.rt_graph.specs.Needs.{AreNeeds}
 use Rattle.rt_graph.specs.Nodes.{with_one}
 use Rattle.rt_graph.specs.Reach.{IsCallOrder, IsRightCycle}
@@ -97,15 +98,16 @@ module _ (objects : List ObjectParts) (tasks : List Task) where
     pub sum : bytes ≡ room objects (stack_bricks objects tasks)
     pub large : memory < bytes
 
+  abbrev pub IsRefusedBy : GraphFault → Type 0
+  IsRefusedBy graph.Memory = Unit {0}
+  IsRefusedBy (graph.BadTask line) = IsUnrooted line
+  IsRefusedBy (graph.Recursion cycle) = IsRecursive cycle
+  IsRefusedBy (graph.SmallStack task need has) = IsShallow task need has
+
   -- want of memory, or the first test that fails: the objects don't match; a task has no root or no stack of its own; what the
   -- roots reach lies on a cycle; a stack has too few words; the parts have no room
   abbrev pub IsFault : LinkFault → Type 0
   IsFault fault.Memory = Unit {0}
-  IsFault (fault.Duplicate brick) = Fails (system_of objects) (matching.Duplicate brick)
-  IsFault (fault.Missing m brick) = Fails (system_of objects) (matching.Missing m brick)
-  IsFault (fault.Mismatch m brick wanted found) = Fails (system_of objects) (matching.Mismatch m brick wanted found)
-  IsFault (fault.NotSupplied m brick) = Fails (system_of objects) (matching.NotSupplied m brick)
-  IsFault (fault.BadTask line) = IsUnrooted line
-  IsFault (fault.Recursion cycle) = IsRecursive cycle
-  IsFault (fault.SmallStack task need has) = IsShallow task need has
+  IsFault (fault.Unmatched f) = Fails (system_of objects) f
+  IsFault (fault.Refused f) = IsRefusedBy f
   IsFault (fault.NoRoom bytes) = IsTooLarge bytes
