@@ -76,7 +76,7 @@ module _ (d : Call) (now : List ℕ → ℕ) (r : Asked) (f : FaultLine) (status
 pub one_file : (name : List ℕ) (Refuses : FaultLine → Type 0) (reads reads2 : List ℕ → ℕ) (u : Unaccepted) → IsUnaccepted Refuses name reads reads2 u → IsDeclined (λ n. n ≡ name) Refuses reads reads2 u
 one_file name Refuses reads reads2 Memory h = tt
 one_file name Refuses reads reads2 (Refused f) h = h
-one_file name Refuses reads reads2 (Failed f) h = (name, refl, h.0, h.1)
+one_file name Refuses reads reads2 (Failed f) h = (name, h.0, refl, h.1)
 
 -- a file isn't accepted, once files were read
 module _ (IsInTurn : List ℕ → Type 0) (Refuses : FaultLine → Type 0) (IsCarried : ℕ → Type 0) (files files2 : Option Files) (reads reads2 writes writes2 : List ℕ → ℕ) (written written2 : Option (List ℕ)) (faults faults2 : ℕ) (left : Feed) (input_faults status : ℕ) where
@@ -100,7 +100,7 @@ module _ (IsInTurn : List ℕ → Type 0) (Refuses : FaultLine → Type 0) (IsCa
   declined (Refused f) e later h (inl (s, kept)) = wanted e kept.written s
   declined (Refused f) e later h (inr t) = FileEnds.refused {f = f} {status = status} h (said f e later t)
   declined (Failed f) e later h (inl (s, kept)) = wanted e kept.written s
-  declined (Failed f) e later (name, turn, is, rose) (inr t) = FileEnds.unread {name = name} {status = status} turn rose (subst (λ g. Says (fault_text g) (status_of g) the status) is (said f e later t))
+  declined (Failed f) e later (name, is, turn, rose) (inr t) = FileEnds.unread {name = name} {status = status} turn rose (subst (λ g. Says (fault_text g) (status_of g) the status) is (said f e later t))
 
   pub kept_still : files2 ≡ files → written2 ≡ written → Ends 30
   kept_still e w = FileEnds.no_memory (record { files = e; written = keeps_by written written2 w; input = record { left = refl; faults = refl } })

@@ -2,9 +2,10 @@
 use Rattle.std.specs.Prelude.{◌≡◌, ℕ, List}
 use Rattle.rt_commands.specs.Commands.{IsCommand}
 use Rattle.rt_commands.specs.declared.command.Command.TheVariants as command
+use Rattle.rt_deeds.specs.Deeds.{Writes}
 use Rattle.rt_object.specs.Grammar.{IsObject}
 use Rattle.rt_object.specs.declared.object.ObjectParts.{ObjectParts}
-use Rattle.rt_top.specs.Calls.{Call, before, after, KeepsInput, Reports}
+use Rattle.rt_top.specs.Calls.{Call, before, after, KeepsInput, Does}
 use Rattle.rt_top.specs.FileEnds.{FileEnds}
 use Rattle.rt_top_files.specs.Reading.{HasModule, RefusesModule}
 
@@ -25,7 +26,7 @@ pub record IsCompiled (c : Call) (n : Named) (status : ℕ) : Type 0 where
   pub has : HasModule c.files n.source object
   pub bytes : List ℕ
   pub spelled : IsObject bytes object
-  pub written : Reports n.object bytes 0 (before c) (after c) status
+  pub written : Does (Writes n.object bytes) 0 (before c) (after c) status
   pub input : KeepsInput c
 
 abbrev pub CompileEnds : Call → Named → ℕ → Type 0

@@ -19,9 +19,8 @@ use Rattle.rt_run.specs.Runs.{Runs}
 use Rattle.rt_words.specs.Causes.{Rose}
 use Rattle.rt_top.specs.Calls.{Call, before, after, KeepsInput, NothingDone, Reports}
 use Rattle.rt_top_files.specs.declared.reading.Unaccepted.{Unaccepted}
-use Rattle.rt_top_files.specs.declared.reading.Unaccepted.TheVariants.{Memory, Refused, Failed}
 use Rattle.rt_top.specs.declared.running.Ready.{Ready}
-use Rattle.rt_top_files.specs.Reading.{HasImage, RefusesImage, HasTicks, RefusesTicks}
+use Rattle.rt_top_files.specs.Reading.{HasImage, RefusesImage, HasTicks, RefusesTicks, IsDeclined}
 
 -- what is asked: the names of the image and of the tick text, the limit, and the name of the report
 pub record Asked : Type 0 where
@@ -47,9 +46,7 @@ IsInTurn files r name = (name ≡ r.image) ⊎ ((i : ImageParts) × HasImage fil
 
 -- why the files aren't accepted
 abbrev pub IsRefused : Option Files → (List ℕ → ℕ) → (List ℕ → ℕ) → Asked → Unaccepted → Type 0
-IsRefused files reads reads_after r Memory = Unit {0}
-IsRefused files reads reads_after r (Refused f) = Refuses files r f
-IsRefused files reads reads_after r (Failed f) = (name : List ℕ) × (f ≡ fault.Unread name) × IsInTurn files r name × Rose (reads name) (reads_after name)
+IsRefused files reads reads_after r = IsDeclined (IsInTurn files r) (Refuses files r) reads reads_after
 
 -- ---- what was done
 

@@ -3,7 +3,8 @@
 ghost use Rattle.std.specs.Prelude.{◌≡◌, ◌≤◌, ◌⊎◌, ℕ, List, Option};
 ghost use Rattle.rt_outside.specs.Files.{Files};
 ghost use Rattle.rt_report.specs.Faults.{status_of, refusal_text};
-ghost use Rattle.rt_top.specs.Calls.{outside, IsKept, Reports, Tells};
+ghost use Rattle.rt_deeds.specs.Deeds.{Writes};
+ghost use Rattle.rt_top.specs.Calls.{outside, IsKept, Does, Reports, Tells};
 ghost use Rattle.rt_top.specs.FileEnds.{Complains, Declines};
 
 use rt_deeds::{Deed, perform};
@@ -30,7 +31,7 @@ pub fn write_file<S: Store, O: Sink>(
     bytes: Bytes,
     status: u8,
 ) -> u8
-    ensures reports { Reports name.now bytes status (outside (S.files store.old) (S.write_faults store.old) (O.written output.old) (O.faults output.old)) (outside (S.files store.new) (S.write_faults store.new) (O.written output.new) (O.faults output.new)) result }
+    ensures written { Does (Writes name.now bytes) status (outside (S.files store.old) (S.write_faults store.old) (O.written output.old) (O.faults output.old)) (outside (S.files store.new) (S.write_faults store.new) (O.written output.new) (O.faults output.new)) result }
     ensures reads_later { (other : List ℕ) → S.read_faults store.old other ≤ S.read_faults store.new other }
 {
     let deeds = [Deed::Write { name, bytes }];

@@ -99,7 +99,7 @@ IsUnaccepted Refuses name reads reads_after (Failed f) = (f ≡ fault.Unread nam
 abbrev pub IsDeclined : (List ℕ → Type 0) → (FaultLine → Type 0) → (List ℕ → ℕ) → (List ℕ → ℕ) → Unaccepted → Type 0
 IsDeclined IsInTurn Refuses reads reads_after Memory = Unit {0}
 IsDeclined IsInTurn Refuses reads reads_after (Refused f) = Refuses f
-IsDeclined IsInTurn Refuses reads reads_after (Failed f) = (name : List ℕ) × IsInTurn name × (f ≡ fault.Unread name) × Rose (reads name) (reads_after name)
+IsDeclined IsInTurn Refuses reads reads_after (Failed f) = (name : List ℕ) × (f ≡ fault.Unread name) × IsInTurn name × Rose (reads name) (reads_after name)
 
 -- this fault, unless memory was wanted
 abbrev pub IsRefusedBy : FaultLine → Unaccepted → Type 0

@@ -136,6 +136,7 @@ pub fn accept_object<S: Store>(
     ensures ok { IfOk result (λ o. HasObject (S.files store.old) name.now o) }
     ensures err { IfErr result (IsUnaccepted (RefusesObject (S.files store.old) name.now) name.now (S.read_faults store.old) (S.read_faults store.new)) }
     ensures unchanged { S.files store.new ≡ S.files store.old }
+    ensures reads_later { (other : List ℕ) → S.read_faults store.old other ≤ S.read_faults store.new other }
     ensures writes_later { (other : List ℕ) → S.write_faults store.old other ≤ S.write_faults store.new other }
 {
     match read_file(alloc, store, name, FileKind::Object) {

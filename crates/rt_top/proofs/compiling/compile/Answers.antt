@@ -13,7 +13,7 @@ returns-in-Ok-write_object g c = λ left faults.
       has = c.in-Ok.ensures.ok;
       bytes = c.in-Ok-write_object.bytes;
       spelled = c.in-Ok-write_object.ensures;
-      written = done_from (Writes c.args.object.now c.in-Ok-write_object.bytes) 0 (g.S.Store.files c.args.store.now) (g.S.Store.files c.accept_module.new.store) (g.S.Store.write_faults c.args.store.now) (g.S.Store.write_faults c.accept_module.new.store) (g.O.Sink.written c.args.output.now) (g.O.Sink.faults c.args.output.now) (outside (g.S.Store.files c.write_file.new.store) (g.S.Store.write_faults c.write_file.new.store) (g.O.Sink.written c.write_file.new.output) (g.O.Sink.faults c.write_file.new.output)) c.write_file.result c.accept_module.ensures.unchanged c.accept_module.ensures.writes_later c.write_file.ensures.reports;
+      written = done_from (Writes c.args.object.now c.in-Ok-write_object.bytes) 0 (g.S.Store.files c.args.store.now) (g.S.Store.files c.accept_module.new.store) (g.S.Store.write_faults c.args.store.now) (g.S.Store.write_faults c.accept_module.new.store) (g.O.Sink.written c.args.output.now) (g.O.Sink.faults c.args.output.now) (outside (g.S.Store.files c.write_file.new.store) (g.S.Store.write_faults c.write_file.new.store) (g.O.Sink.written c.write_file.new.output) (g.O.Sink.faults c.write_file.new.output)) c.write_file.result c.accept_module.ensures.unchanged c.accept_module.ensures.writes_later c.write_file.ensures.written;
       input = record { left = refl; faults = refl };
     })
 
