@@ -1,0 +1,5 @@
+mod Bricks
+mod Found
+mod Rooted
+mod TaskLines
+mod Verdicts

@@ -1,0 +1,60 @@
+//! The needs of the roots of tasks.
+
+ghost use Rattle.std.specs.Prelude.{◌≡◌, position, slice_get, IfOk};
+ghost use Rattle.rt_graph.specs.Numbers.{and_then};
+ghost use Rattle.rt_graph.specs.Scans as scans;
+ghost use Rattle.rt_link.specs.Needs as spec;
+
+use rt_link_verdict::Judged;
+use rt_tree_nodes::Proc;
+use rt_words::{List, Memory};
+use std::alloc::Global;
+
+/// Of each root the need that is told with the order.
+pub fn root_words(alloc: Global, judged: &Judged) -> Result<List<u16>, Memory>
+    ensures { IfOk result (λ words. words ≡ spec.root_words judged.now.order.procs judged.now.needs judged.now.roots) }
+{
+    let mut words = List::new(alloc, judged.roots.len())?;
+    for root in judged.roots.as_slice() {
+        words.push(root_word(judged, *root))?;
+    }
+    Ok(words)
+}
+
+fn root_word(judged: &Judged, root: Proc) -> u16
+    ensures { result ≡ spec.word (scans.told_need judged.now.order.procs judged.now.needs root) }
+{
+    match told_need(judged.order.procs.as_slice(), judged.needs.as_slice(), root) {
+        Some(need) => u16::try_from(need).unwrap_or(u16::MAX),
+        None => 0,
+    }
+}
+
+/// The need of a procedure, in a list of needs that goes with an order.
+fn told_need(order: &[Proc], needs: &[u32], of: Proc) -> Option<u32>
+    ensures { result ≡ scans.told_need order.now needs.now of }
+{
+    need_at(needs, place(order, of))
+}
+
+fn need_at(needs: &[u32], place: Option<usize>) -> Option<u32>
+    ensures { result ≡ and_then place (λ number. slice_get needs.now number) }
+{
+    match place {
+        Some(number) => needs.get(number).copied(),
+        None => None,
+    }
+}
+
+/// The place of a procedure in an order.
+fn place(order: &[Proc], of: Proc) -> Option<usize>
+    ensures { result ≡ position (λ one. scans.is_same one of) order.now }
+{
+    order.iter().position(|one| is_same(*one, of))
+}
+
+fn is_same(one: Proc, other: Proc) -> bool
+    ensures { result ≡ scans.is_same one other }
+{
+    one == other
+}
