@@ -1,0 +1,5 @@
+mod Declined
+mod Lines
+mod Printed
+mod Places
+mod Whole
