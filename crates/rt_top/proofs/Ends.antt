@@ -1,5 +1,5 @@
 -- How commands end, from the moments of their steps.
-use Rattle.std.proofs.Common.{◌≡◌, ◌⊎◌, inl, inr, ℕ, ◌≤◌, List, [], Option, refl, sym, subst, ◌∙◌, arith}
+use Rattle.std.proofs.Common.{◌≡◌, ◌⊎◌, inl, inr, ℕ, ◌≤◌, List, [], ◌∷◌, Option, refl, sym, subst, ◌∙◌, arith}
 use Rattle.rt_deeds.specs.Deeds.{Deed, Puts, Outside}
 use Rattle.rt_deeds.proofs.Changes.{earlier}
 use Rattle.rt_image.specs.declared.image.ImageParts.{ImageParts}
@@ -11,7 +11,7 @@ use Rattle.rt_top_files.specs.declared.reading.Unaccepted.{Unaccepted}
 use Rattle.rt_top_files.specs.declared.reading.Unaccepted.TheVariants.{Memory, Refused, Failed}
 use Rattle.rt_report.specs.Faults.{status_of, fault_text}
 use Rattle.rt_run.specs.Inputs.{Feed}
-use Rattle.rt_top.specs.Calls.{Call, the_call, outside, Does, Says, Tells}
+use Rattle.rt_top.specs.Calls.{Call, the_call, outside, Does, DoesAll, Says, Tells}
 use Rattle.rt_top.specs.FileEnds.{Declines, FileEnds}
 use Rattle.rt_top_files.specs.Reading.{IsUnaccepted, IsDeclined}
 use Rattle.rt_top.specs.Running.{Asked, IsInTurn, IsRefused, IsRefusal, IsCarried, RunEnds, refused, unread}
@@ -41,13 +41,16 @@ carried_from d files reads writes r image gaps status e w k = record {
 }
 
 -- where the store told no other files and no count fell since
-pub done_from : (d : Deed) (n : ℕ) (files files2 : Option Files) (writes writes2 : List ℕ → ℕ) (written : Option (List ℕ)) (faults : ℕ) (b : Outside) (status : ℕ) → files2 ≡ files → ((m : List ℕ) → writes m ≤ writes2 m) → Does d n (outside files2 writes2 written faults) b status → Does d n (outside files writes written faults) b status
-done_from d n files files2 writes writes2 written faults b status e w h = record {
+pub all_from : (d : Deed) (ds : List Deed) (n : ℕ) (files files2 : Option Files) (writes writes2 : List ℕ → ℕ) (written : Option (List ℕ)) (faults : ℕ) (b : Outside) (status : ℕ) → files2 ≡ files → ((m : List ℕ) → writes m ≤ writes2 m) → DoesAll (d ∷ ds) n (outside files2 writes2 written faults) b status → DoesAll (d ∷ ds) n (outside files writes written faults) b status
+all_from d ds n files files2 writes writes2 written faults b status e w h = record {
   all = h.all;
-  performed = earlier d [] (outside files writes written faults) (outside files2 writes2 written faults) b h.all
+  performed = earlier d ds (outside files writes written faults) (outside files2 writes2 written faults) b h.all
       (record { files = sym e; written = refl; later = record { writes = w; faults = omega arith } }) h.performed;
   answer = h.answer;
 }
+
+pub done_from : (d : Deed) (n : ℕ) (files files2 : Option Files) (writes writes2 : List ℕ → ℕ) (written : Option (List ℕ)) (faults : ℕ) (b : Outside) (status : ℕ) → files2 ≡ files → ((m : List ℕ) → writes m ≤ writes2 m) → Does d n (outside files2 writes2 written faults) b status → Does d n (outside files writes written faults) b status
+done_from d n = all_from d [] n
 
 -- an ending with the answer 30 where memory was wanted, or another
 left_by : (Ends : ℕ → Type 0) (status : ℕ) (Wanted Told : Type 0) → (Wanted → Ends 30) → (Told → Ends status) → ((status ≡ 30) × Wanted) ⊎ Told → Ends status

@@ -1,31 +1,23 @@
 -- What a command leaves.
 use Rattle.std.proofs.Common.{◌≡◌, ℕ, ◌≤◌, Bool, true, false, List, [], ◌∷◌, Option, Some, None, refl, sym, subst, arith}
 use Rattle.std.specs.Io.KnownBytes.{Keeps}
-use Rattle.rt_deeds.specs.Deeds.{Deed, Outside, IsLater, HasFailed, Performed, nothing, done, failed}
+use Rattle.rt_deeds.specs.Deeds.{Deed, Outside, IsLater, Performed}
 use Rattle.rt_outside.specs.Files.{Files}
-use Rattle.rt_top.specs.Calls.{outside, Does, all_done, one_failed, Reports}
+use Rattle.rt_top.specs.Calls.{outside, DoesAll, all_done, one_failed, Reports}
 
 pub keeps : (o : Option (List ℕ)) → Keeps o o
 keeps None = tt
 keeps (Some xs) = refl
 
-pub all_well : (d : Deed) (n : ℕ) (a b : Outside) → Performed (d ∷ []) a b true → Does d n a b n
-all_well d n a b h = record { all = true; performed = h; answer = all_done }
+pub all_well : (ds : List Deed) (n : ℕ) (a b : Outside) → Performed ds a b true → DoesAll ds n a b n
+all_well ds n a b h = record { all = true; performed = h; answer = all_done }
 
-pub not_well : (d : Deed) (n : ℕ) (a b : Outside) → Performed (d ∷ []) a b false → Does d n a b 21
-not_well d n a b h = record { all = false; performed = h; answer = one_failed }
+pub not_well : (ds : List Deed) (n : ℕ) (a b : Outside) → Performed ds a b false → DoesAll ds n a b 21
+not_well ds n a b h = record { all = false; performed = h; answer = one_failed }
 
 -- other words for the same text and the same status
 pub reworded : (name text text2 : List ℕ) (n n2 : ℕ) (a b : Outside) (status : ℕ) → text ≡ text2 → n ≡ n2 → Reports name text n a b status → Reports name text2 n2 a b status
 reworded name text text2 n n2 a b status e e2 h = subst (λ t. Reports name t n2 a b status) e (subst (λ m. Reports name text m a b status) e2 h)
-
--- the one deed, where it failed
-failed_by : (all : Bool) (d : Deed) (a b : Outside) → all ≡ false → Performed (d ∷ []) a b all → HasFailed d a b
-failed_by all d a b e (failed h) = h
-failed_by all d a b e (done h nothing) = absurd cc
-
-pub has_failed : (d : Deed) (a b : Outside) → Performed (d ∷ []) a b false → HasFailed d a b
-has_failed d a b h = failed_by false d a b refl h
 
 -- a count that rose is later, and all others are the same
 pub put_later : (files : Option Files) (writes : List ℕ → ℕ) (written written2 : Option (List ℕ)) (faults faults2 : ℕ) → faults ≤ faults2 → IsLater (outside files writes written faults) (outside files writes written2 faults2)

@@ -1,5 +1,8 @@
 pub mod Leaves
 pub mod Counts
+pub mod Keeping
 pub mod Ends
+pub mod Systems
 pub mod Causes
+pub mod Commands
 pub mod Clauses

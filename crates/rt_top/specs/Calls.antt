@@ -2,6 +2,7 @@
 use Rattle.std.specs.Io.KnownBytes.{Keeps}
 use Rattle.std.specs.Prelude.{◌≡◌, ℕ, Bool, true, false, List, [], ◌∷◌, Option}
 use Rattle.rt_deeds.specs.Deeds.{Deed, Writes, Puts, Outside, Performed}
+use Rattle.rt_deeds.specs.Laws.{Both, Among}
 use Rattle.rt_first_go.specs.Ends as go
 use Rattle.rt_outside.specs.Files.{Files}
 use Rattle.rt_run.specs.Inputs.{Feed}
@@ -78,6 +79,10 @@ pub record NothingDone (c : Call) : Type 0 where
   pub written : Keeps c.written c.written_after
   pub input : KeepsInput c
 
+-- told files stay told, and each of another name than these is as it was
+abbrev pub KeepsOthers : List (List ℕ) → Call → Type 0
+KeepsOthers names c = Both c.files c.files_after (λ old new. (n : List ℕ) → (Among names n → ⊥) → new n ≡ old n)
+
 -- no file changed, and nothing was put
 pub record IsKept (a b : Outside) : Type 0 where
   pub files : b.files ≡ a.files
@@ -88,11 +93,15 @@ pub data Answers (done : ℕ) : (all : Bool) → ℕ → Type 0 where
   all_done : Answers done true done
   one_failed : Answers done false 21
 
--- one deed is all that is done
-pub record Does (d : Deed) (done : ℕ) (a b : Outside) (status : ℕ) : Type 0 where
+-- these deeds are all that is done
+pub record DoesAll (ds : List Deed) (done : ℕ) (a b : Outside) (status : ℕ) : Type 0 where
   pub all : Bool
-  pub performed : Performed (d ∷ []) a b all
+  pub performed : Performed ds a b all
   pub answer : Answers done all status
+
+-- one deed is
+abbrev pub Does : Deed → ℕ → Outside → Outside → ℕ → Type 0
+Does d = DoesAll (d ∷ [])
 
 -- the report gets this text
 abbrev pub Reports : List ℕ → List ℕ → ℕ → Outside → Outside → ℕ → Type 0

@@ -1,17 +1,19 @@
 -- What the program promises of a call, whatever its words.
-use Rattle.std.specs.Prelude.{◌≡◌, ℕ, List, codes}
+use Rattle.std.specs.Prelude.{◌≡◌, ℕ, List, [], ◌∷◌, codes}
 use Rattle.rt_commands.specs.Commands.{IsCommand}
 use Rattle.rt_commands.specs.declared.command.Command.{Command}
 use Rattle.rt_commands.specs.declared.command.Command.TheVariants as command
 use Rattle.rt_commands.specs.declared.lent.TimedWords.{TimedWords}
 use Rattle.rt_first_go.specs.Headline as go
-use Rattle.rt_first_go.specs.Words.{Go, IsGo}
+use Rattle.rt_first_go.specs.Words.{Go, IsGo, image_name, report_name}
 use Rattle.rt_outside.specs.Files.{IsTold, Lacks}
 use Rattle.rt_words.specs.Causes.{Rose}
-use Rattle.rt_top.specs.Calls.{Call, without_input, KeepsInput, NothingDone, Says}
+use Rattle.rt_top.specs.Calls.{Call, without_input, KeepsInput, NothingDone, KeepsOthers, Says}
 use Rattle.rt_top.specs.Compiling.{Named, IsCompile, CompileEnds}
+use Rattle.rt_top.specs.Linking.{LinkNames, IsLink, LinkEnds}
 use Rattle.rt_top.specs.Running.{Asked, IsRun, RunEnds}
 use Rattle.rt_top.specs.Showing.{IsShow, ShowEnds}
+use Rattle.rt_top.specs.Stacking.{IsStacks, StacksEnd}
 
 -- what `go` is asked by these words
 abbrev pub asked_go : TimedWords → Go
@@ -21,6 +23,8 @@ asked_go w = record { system = w.first.now; ticks = w.second.now; limit = w.limi
 abbrev pub IsBuilt : Command → Type 0
 IsBuilt (command.Go system ticks limit name) = Unit {0}
 IsBuilt (command.Compile source object) = Unit {0}
+IsBuilt (command.Link system image map) = Unit {0}
+IsBuilt (command.Stacks system) = Unit {0}
 IsBuilt (command.Run image ticks limit report) = Unit {0}
 IsBuilt (command.Show object) = Unit {0}
 IsBuilt _ = ⊥
@@ -49,12 +53,29 @@ pub data HasWriteFault (c : Call) : Type 0 where
   write : (name : List ℕ) → Rose (c.writes name) (c.writes_after name) → HasWriteFault c
   output : Rose c.faults c.faults_after → HasWriteFault c
 
+-- the names of the files that a command may write
+abbrev pub written_by : Command → List (List ℕ)
+written_by (command.Go system ticks limit name) = let g : Go = record { system = system; ticks = ticks; limit = limit; name = name } in image_name g ∷ report_name g ∷ []
+written_by (command.Compile source object) = object ∷ []
+written_by (command.Link system image map) = image ∷ map ∷ []
+written_by (command.Run image ticks limit report) = report ∷ []
+written_by _ = []
+
+-- the names that may be written by these words
+pub data MayWrite (words : List (List ℕ)) : List (List ℕ) → Type 0 where
+  by_command : {d : Command} → IsBuilt d → IsCommand words d → MayWrite words (written_by d)
+  by_none : IsNoCommand words → MayWrite words []
+
 pub record Headline (words : List (List ℕ)) (c : Call) (status : ℕ) : Type 0 where
   pub goes : (g : Go) → IsGo words g → Goes words c status
   pub compiles : (n : Named) → IsCompile words n → CompileEnds c n status
+  pub links : (n : LinkNames) → IsLink words n → LinkEnds c n status
+  pub stacks : (name : List ℕ) → IsStacks words name → StacksEnd c name status
   pub runs : (r : Asked) → IsRun words r → RunEnds c r status
   pub shows : (name : List ℕ) → IsShow words name → ShowEnds c name status
   pub none : IsNoCommand words → Says words_line 10 c status
+  -- files of other names than the words have for what is written stay as they were, whatever the answer
+  pub files_kept : (names : List (List ℕ)) → MayWrite words names → KeepsOthers names c
   -- each of these answers has its cause
   pub ten : status ≡ 10 → IsNoCommand words
   pub twenty : status ≡ 20 → HasReadFault c

@@ -7,9 +7,11 @@ ghost use Rattle.rt_first_go.specs.GoWords.{go_of};
 ghost use Rattle.rt_top.specs.Top.{asked_go, Headline};
 
 use crate::compiling::compile;
+use crate::linking::link;
 use crate::reporting::tell;
 use crate::running::run;
 use crate::showing::show;
+use crate::stacking::stacks;
 use rt_commands::{CommandWords, TimedWords, lend_words};
 use rt_first_go::{GoWords, go};
 use rt_outside::{Sink, Source, Store};
@@ -26,6 +28,10 @@ const WORDS_FAULT: &[u8] = b"FAULT 10\n";
 /// - `go SYSTEM TICKS LIMIT NAME` compiles, links and runs a system of the first form: [`rt_first_go::go`].
 /// - `compile SOURCE OBJECT` compiles a module's text, and writes its object. It answers 0 then, 11 and 20 where the file is refused,
 ///   whose fault line is put, 21 where the file or the output can't be written, and 30 for want of memory.
+/// - `link SYSTEM IMAGE MAP` reads a system's text and its modules, links them, and writes the image and then its map. It answers 0 then,
+///   11, 12, 13 and 20 where a file is refused and 14 where the system isn't linked, whose fault line is put, 21 where a file or the
+///   output can't be written, and 30 for want of memory.
+/// - `stacks SYSTEM` does as `link`, but writes no file, and puts the stack table.
 /// - `run IMAGE TICKS LIMIT REPORT` runs an image under ticks, with `input` and `output` as its console, and writes the report of
 ///   the run. It answers 0 where all tasks ended without error, 1 where they ended and one with an error, 2 at the limit, 3 where
 ///   the run is stalled, 4 where an instruction faults, 13 and 15 where a file is refused, 20 and 21 where a count of faults says
@@ -55,6 +61,8 @@ pub fn top<S: Store, I: Source, O: Sink>(
     match lent {
         CommandWords::Go(timed) => go(alloc, &go_words(timed), store, output),
         CommandWords::Compile(source, object) => compile(alloc, source, object, store, output),
+        CommandWords::Link(system, image, map) => link(alloc, system, image, map, store, output),
+        CommandWords::Stacks(system) => stacks(alloc, system, store, output),
         CommandWords::Run(timed) => run(alloc, &timed, store, input, output),
         CommandWords::Show(object) => show(alloc, object, store, output),
         _ => tell(output, WORDS_FAULT, WRONG_WORDS),

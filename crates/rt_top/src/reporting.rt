@@ -1,12 +1,13 @@
 //! What a command leaves: a file or a text, and the status.
 
-ghost use Rattle.std.specs.Prelude.{◌≡◌, ◌≤◌, ◌⊎◌, ℕ, List, Option};
+ghost use Rattle.std.specs.Prelude.{◌≡◌, ◌≤◌, ◌⊎◌, ℕ, List, [], ◌∷◌, Option};
 ghost use Rattle.rt_outside.specs.Files.{Files};
 ghost use Rattle.rt_report.specs.Faults.{status_of, refusal_text};
 ghost use Rattle.rt_deeds.specs.Deeds.{Writes};
-ghost use Rattle.rt_top.specs.Calls.{outside, IsKept, Does, Reports, Tells};
+ghost use Rattle.rt_top.specs.Calls.{outside, IsKept, Does, DoesAll, Reports, Tells};
 ghost use Rattle.rt_top.specs.FileEnds.{Complains, Declines};
 
+use crate::linking::Made;
 use rt_deeds::{Deed, perform};
 use rt_outside::{Sink, Store, put_all};
 use rt_report::{FaultLine, fault_line, fault_status, refusal_report};
@@ -37,6 +38,33 @@ pub fn write_file<S: Store, O: Sink>(
     let deeds = [Deed::Write { name, bytes }];
     match perform(store, output, &deeds) {
         Ok(()) => status,
+        Err(_) => UNWRITTEN,
+    }
+}
+
+/// Writes an image and then its map, and answers 0 where both succeed.
+pub fn write_both<'n, S: Store, O: Sink>(
+    store: &mut S,
+    output: &mut O,
+    image: &'n str,
+    map: &'n str,
+    made: Made,
+) -> u8
+    ensures written { DoesAll (Writes image.now made.image ∷ Writes map.now made.map ∷ []) 0 (outside (S.files store.old) (S.write_faults store.old) (O.written output.old) (O.faults output.old)) (outside (S.files store.new) (S.write_faults store.new) (O.written output.new) (O.faults output.new)) result }
+    ensures reads_later { (other : List ℕ) → S.read_faults store.old other ≤ S.read_faults store.new other }
+{
+    let deeds = [
+        Deed::Write {
+            name: image,
+            bytes: made.image,
+        },
+        Deed::Write {
+            name: map,
+            bytes: made.map,
+        },
+    ];
+    match perform(store, output, &deeds) {
+        Ok(()) => DONE,
         Err(_) => UNWRITTEN,
     }
 }

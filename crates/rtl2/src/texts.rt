@@ -7,6 +7,8 @@ rtl2 compiles RTL/2 modules for the PDP-11, links them and runs the image under 
 
   rtl2 go SYSTEM TICKS LIMIT NAME      compile, link, write NAME.IMG, run, write NAME.RPT
   rtl2 compile SOURCE OBJECT           compile a module, and write its object
+  rtl2 link SYSTEM IMAGE MAP           link a system, and write its image and its map
+  rtl2 stacks SYSTEM                   put what the procedures and tasks need of their stacks
   rtl2 run IMAGE TICKS LIMIT REPORT    run an image, and write the report of the run
   rtl2 show OBJECT                     put the listing of an object
   rtl2 --help                          this text

@@ -1,8 +1,9 @@
 use Rattle.std.proofs.Common.{map, string_bytes, refl}
 use Rattle.rt_first_go.specs.GoWords.{go_of}
 use Rattle.rt_top.specs.Compiling.{named}
+use Rattle.rt_top.specs.Linking.{link_names}
 use Rattle.rt_top.specs.Running.{asked}
-use Rattle.rt_top.proofs.Clauses.{went, compiled, ran, showed, told, lent_go, lent_compile, lent_run, lent_show, lent_other, no_command}
+use Rattle.rt_top.proofs.Clauses.{went, compiled, linked, stacked, ran, showed, told, lent_go, lent_compile, lent_link, lent_stacks, lent_run, lent_show, lent_other, no_command}
 use Rattle.rt_top.proofs.command.top.Goals as goal
 
 pub returns-in_default : goal.returns-in_default
@@ -21,7 +22,7 @@ returns-in-Run g c =
 
 pub returns-in_default-lent : goal.returns-in_default-lent
 returns-in_default-lent g c =
-    told (map string_bytes c.args.words.now) _ c.tell-in_default-lent.result (lent_other (map string_bytes c.args.words.now) c.in-Some.lent c.in_default-lent.not-Go c.in_default-lent.not-Compile c.in_default-lent.not-Run c.in_default-lent.not-Show c.in-Some.ensures.command)
+    told (map string_bytes c.args.words.now) _ c.tell-in_default-lent.result (lent_other (map string_bytes c.args.words.now) c.in-Some.lent c.in_default-lent.not-Go c.in_default-lent.not-Compile c.in_default-lent.not-Link c.in_default-lent.not-Stacks c.in_default-lent.not-Run c.in_default-lent.not-Show c.in-Some.ensures.command)
     (record { tells = c.tell-in_default-lent.ensures (g.S.Store.files c.args.store.now) (g.S.Store.write_faults c.args.store.now); input = record { left = refl; faults = refl } })
 
 pub returns-in-Show : goal.returns-in-Show
@@ -33,3 +34,13 @@ pub returns-in-Compile : goal.returns-in-Compile
 returns-in-Compile g c =
     compiled (map string_bytes c.args.words.now) _ c.compile.result (named c.in-Compile.source.now c.in-Compile.object.now) (lent_compile (map string_bytes c.args.words.now) c.in-Some.lent c.in-Compile.source c.in-Compile.object c.in-Compile.is c.in-Some.ensures.command)
     (c.compile.ensures _ _)
+
+pub returns-in-Link : goal.returns-in-Link
+returns-in-Link g c =
+    linked (map string_bytes c.args.words.now) _ c.link.result (link_names c.in-Link.system.now c.in-Link.image.now c.in-Link.map.now) (lent_link (map string_bytes c.args.words.now) c.in-Some.lent c.in-Link.system c.in-Link.image c.in-Link.map c.in-Link.is c.in-Some.ensures.command)
+    (c.link.ensures _ _)
+
+pub returns-in-Stacks : goal.returns-in-Stacks
+returns-in-Stacks g c =
+    stacked (map string_bytes c.args.words.now) _ c.stacks.result c.in-Stacks.system.now (lent_stacks (map string_bytes c.args.words.now) c.in-Some.lent c.in-Stacks.system c.in-Stacks.is c.in-Some.ensures.command)
+    (c.stacks.ensures _ _)
