@@ -11,6 +11,7 @@ use rt_tree::{Brick, BrickSort, Labelled, ModuleParts, ProcBody, TypedModule};
 use rt_words::List;
 use std::alloc::Global;
 use std::fmt::Write;
+use std::mem;
 
 fn parts_of(alloc: Global, text: &str) -> Result<ModuleParts, Stop> {
     if text.len() > 4194304 {
@@ -54,35 +55,45 @@ fn last_brick(alloc: Global, text: &str) -> Result<Brick, Stop> {
 
 /// Whether the first text fits with the last brick of another text in place of its last one.
 pub fn graft_brick(alloc: Global, case: &Case, text: &str, out: &mut String) -> Result<(), Stop> {
-    let brick = last_brick(alloc, text)?;
-    with_brick(alloc, case.frame(), brick, out)
+    let mut parts = parts_of(alloc, case.frame())?;
+    put_brick(alloc, text, &mut parts)?;
+    tell_fit(parts, out)
 }
 
-fn with_brick(alloc: Global, first: &str, brick: Brick, out: &mut String) -> Result<(), Stop> {
-    let mut parts = parts_of(alloc, first)?;
+fn put_brick(alloc: Global, text: &str, parts: &mut ModuleParts) -> Result<(), Stop> {
+    let brick = last_brick(alloc, text)?;
     let _ = parts.bricks.pop();
-    parts.bricks.push(brick)?;
-    tell_fit(parts, out)
+    Ok(parts.bricks.push(brick)?)
 }
 
 /// Whether the first text fits with the last statement of another text in place of its last one.
 pub fn graft_line(alloc: Global, case: &Case, text: &str, out: &mut String) -> Result<(), Stop> {
-    let line = line_of(alloc, text)?;
     let mut parts = parts_of(alloc, case.frame())?;
-    end_in(&mut parts, line);
+    end_with(alloc, text, &mut parts)?;
     tell_fit(parts, out)
+}
+
+fn end_with(alloc: Global, text: &str, parts: &mut ModuleParts) -> Result<(), Stop> {
+    let mut line = line_of(alloc, text)?;
+    end_in(parts, &mut line);
+    Ok(())
 }
 
 /// Whether the first text fits with a statement that no text has in place of its last one; and where it does, the frame of its
 /// last brick, and what its tasks do.
 pub fn graft_made(alloc: Global, case: &Case, written: &str, out: &mut String) -> Result<(), Stop> {
-    let line = made(alloc, written)?;
     let mut parts = parts_of(alloc, case.frame())?;
-    end_in(&mut parts, line);
+    end_as_made(alloc, written, &mut parts)?;
     match TypedModule::new(parts) {
         Some(module) => show_made(alloc, case, module, out),
         None => Ok(out.push_str(" unfit")?),
     }
+}
+
+fn end_as_made(alloc: Global, written: &str, parts: &mut ModuleParts) -> Result<(), Stop> {
+    let mut line = made(alloc, written)?;
+    end_in(parts, &mut line);
+    Ok(())
 }
 
 fn show_made(
@@ -124,8 +135,8 @@ fn last_line(brick: &mut Brick) -> Option<Labelled> {
     }
 }
 
-// Puts a statement in the place of the last one of the last brick, where that is a procedure.
-fn end_in(parts: &mut ModuleParts, line: Labelled) {
+// Puts a statement in the place of the last one of the last brick, where that is a procedure, and hands that one back.
+fn end_in(parts: &mut ModuleParts, line: &mut Labelled) {
     let mut bricks = parts.bricks.take().into_vec();
     if let Some(brick) = bricks.last_mut() {
         end_sort(&mut brick.sort, line);
@@ -133,24 +144,25 @@ fn end_in(parts: &mut ModuleParts, line: Labelled) {
     parts.bricks = List::from_vec(bricks);
 }
 
-fn end_sort(sort: &mut BrickSort, line: Labelled) {
+fn end_sort(sort: &mut BrickSort, line: &mut Labelled) {
     match sort {
         BrickSort::Proc(_, body) => end_any(body, line),
         _ => {}
     }
 }
 
-fn end_any(body: &mut Option<ProcBody>, line: Labelled) {
+fn end_any(body: &mut Option<ProcBody>, line: &mut Labelled) {
     if let Some(procedure) = body {
         put_last(&mut procedure.body.statements, line);
     }
 }
 
-fn put_last(statements: &mut List<Labelled>, line: Labelled) {
-    let count = statements.len();
-    if count > 0 {
-        statements.set(count - 1, line);
+fn put_last(statements: &mut List<Labelled>, line: &mut Labelled) {
+    let mut lines = statements.take().into_vec();
+    if let Some(last) = lines.last_mut() {
+        mem::swap(last, line);
     }
+    *statements = List::from_vec(lines);
 }
 
 /// Whether a text fits without the last of its records.

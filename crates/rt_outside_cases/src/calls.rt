@@ -6,7 +6,7 @@ use crate::stores::{show_file, store_of};
 use crate::texts::{numbers_of, word_of};
 use rt_outside::{MemSink, MemSource, MemStore};
 use rt_top::top;
-use rt_words::{Bytes, List, Memory, Text};
+use rt_words::{Bytes, Memory, Text};
 use std::alloc::Global;
 
 /// The room for what is written to the store.
@@ -51,14 +51,20 @@ fn call_over(
 
 fn call_with(
     alloc: Global,
-    words: &str,
+    text: &str,
     store: &mut MemStore,
     output: &mut MemSink,
     out: &mut Text,
 ) -> Result<(), Memory> {
-    let typed = Bytes::from_slice(alloc, b"typed")?;
-    let mut input = MemSource::new(alloc, typed, List::from_vec(Vec::new(alloc)))?;
-    call(alloc, words, store, &mut input, output, out)
+    let (input_fails, words) = text.split_once(':').unwrap_or(("-", text));
+    match numbers_of(alloc, input_fails)? {
+        Some(fails) => {
+            let typed = Bytes::from_slice(alloc, b"typed")?;
+            let mut input = MemSource::new(alloc, typed, fails)?;
+            call(alloc, words, store, &mut input, output, out)
+        }
+        None => out.push_all(b"no reads that fail"),
+    }
 }
 
 fn call(

@@ -13,7 +13,7 @@
 //!   third put fail, and two puts.
 //! - `system MODULE A\nTASK T R S 9`: a system text of the first form. `module TITLE T; ..`: a module text of that system.
 //! - `top 4 : 1 : go H.SYS H.TCK 100 OUT`: the program with these words over a store of the files, whose fourth call
-//!   fails, as the first put does.
+//!   fails, as the first put does. `top - : - : 2 : run I.IMG T.TCK 100 OUT.RPT`: so where the second read of the input fails.
 #![tactic(auto)]
 
 mod calls;
