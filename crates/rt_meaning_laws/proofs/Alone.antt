@@ -1,7 +1,8 @@
 -- A location stands at one place, which has one mode.
-use Rattle.std.proofs.Common.{◌≡◌, ℕ, List, [], Some, slice_get, sym, ap, ◌∙◌}
+use Rattle.std.proofs.Common.{◌≡◌, ℕ, List, [], Some, slice_get, codes, sym, ap, ◌∙◌}
 use Rattle.rt_modes.specs.declared.mode.Field.{Field}
 use Rattle.rt_modes.specs.declared.mode.Mode.{Mode}
+use Rattle.rt_modes.specs.declared.mode.Mode.TheVariants as mode
 use Rattle.rt_modes.specs.declared.mode.ModeTable.{ModeTable}
 use Rattle.rt_modes.specs.FullMode.{FullMode}
 use Rattle.rt_tree_nodes.specs.declared.brick.Brick.{Brick}
@@ -13,7 +14,10 @@ use Rattle.rt_tree_nodes.specs.Scopes.{field_at}
 use Rattle.rt_tree.specs.Modules.{mode_along}
 use Rattle.rt_tree.specs.Stored as s
 use Rattle.rt_tree.specs.Stored.{System, StandsAt, module_of, text_mode}
-use Rattle.rt_meaning_laws.specs.Laws.{OneModeAPlace}
+use Rattle.rt_meaning_laws.specs.Laws.{OneModeAPlace, OneModeAnOwn}
+use Rattle.rt_meaning_laws.specs.Slots.{IsInt, IsOwn, ern, erp, input, output}
+use Rattle.rt_tree_nodes.proofs.Same.{out_same}
+use Rattle.rt_meaning_laws.proofs.Modes.{out_int}
 use Rattle.rt_meaning_laws.proofs.Small.{some_same}
 
 fields_of : BrickSort → List Field
@@ -42,3 +46,15 @@ one_place {ps = ps} (s.in_text {m = m} {k = k} {path = path} {p = p} {s = y} {w 
 
 pub one_mode_a_place : OneModeAPlace
 one_mode_a_place ps t u m n l h g = sym h.same ∙ one_place h.at g.at ∙ g.same
+
+-- ---- a task's own data
+
+-- an INT has one full mode, whatever the records
+int_full : (t : ModeTable) (m : Mode) → IsInt m → FullMode t m ≡ codes "INT"
+int_full t m e = ap (FullMode t) (out_same m mode.Int (e ∙ sym out_int))
+
+pub one_mode_an_own : OneModeAnOwn
+one_mode_an_own t u k m n (ern h) (ern g) = int_full t m h ∙ sym (int_full u n g)
+one_mode_an_own t u k m n (erp out h) (erp out2 g) = h ∙ sym g
+one_mode_an_own t u k m n (input out h) (input out2 g) = h ∙ sym g
+one_mode_an_own t u k m n (output out h) (output out2 g) = h ∙ sym g

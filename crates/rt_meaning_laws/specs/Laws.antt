@@ -20,7 +20,7 @@ use Rattle.rt_meaning.specs.Step.{Task, request, task_step}
 use Rattle.rt_meaning.specs.Whole.{beginning}
 use Rattle.rt_tree.specs.FullModes.{MayStand}
 use Rattle.rt_meaning_laws.specs.Levels.{IsTableOf}
-use Rattle.rt_meaning_laws.specs.Slots.{LeadsTo, IsOf, Slot}
+use Rattle.rt_meaning_laws.specs.Slots.{LeadsTo, IsOwn, IsOf, Slot}
 use Rattle.rt_meaning_laws.specs.Trees.{Site}
 use Rattle.rt_meaning_laws.specs.Work.{Ready, NextFits}
 use Rattle.rt_meaning_laws.specs.Grounds.{Sound, Grounds}
@@ -54,6 +54,10 @@ ValuesPass = (ps : System) (t u : ModeTable) (m n : Mode) (d : Datum) → Sound 
 -- Modes to whose places one location leads have one full mode, whichever modules they stand in.
 abbrev pub OneModeAPlace : Type 0
 OneModeAPlace = (ps : System) (t u : ModeTable) (m n : Mode) (l : Location) → LeadsTo ps t m l → LeadsTo ps u n l → FullMode t m ≡ FullMode u n
+
+-- Modes as one of which an item of a task's own data may be read and written have one full mode, too.
+abbrev pub OneModeAnOwn : Type 0
+OneModeAnOwn = (t u : ModeTable) (k : ℕ) (m n : Mode) → IsOwn t k m → IsOwn u k n → FullMode t m ≡ FullMode u n
 
 -- ---- steps and runs
 

@@ -37,9 +37,10 @@ pub fn values_pass()
     ensures { law.ValuesPass }
 {}
 
-/// Modes to whose places one location leads have one full mode.
+/// Modes to whose places one location leads have one full mode, whether it is one that all tasks share or an item of a task's own data.
 pub fn one_mode_a_place()
-    ensures { law.OneModeAPlace }
+    ensures shared { law.OneModeAPlace }
+    ensures own { law.OneModeAnOwn }
 {}
 
 /// A visible step of a task that fits, over a typed store, lacks nothing, and it leaves a typed store and a task that fits.
