@@ -1,5 +1,5 @@
 -- The needs of the roots of a system that passes all tests: they are small, and so just those that are told.
-use Rattle.std.proofs.Common.{◌≡◌, ◌≤◌, ◌*◌, ◌+◌, ℕ, min, List, map, Option, Some, option_map, slice_get, sym, ap, ◌∙◌, subst, arith}
+use Rattle.std.proofs.Common.{◌≡◌, ◌≤◌, ℕ, min, List, Option, Some, option_map, slice_get, sym, ap, ◌∙◌, subst, arith}
 use Rattle.std.specs.List.{sum_by}
 use Rattle.std.proofs.lemmas.List.Sums.{get_or-le-sum_by}
 use Rattle.std.proofs.lemmas.Option.{slice_get_within, slice_get-map, get_or_from_slice_get}
@@ -10,16 +10,15 @@ use Rattle.rt_object.specs.declared.object.BrickKind.{BrickKind}
 use Rattle.rt_object.specs.declared.object.Content.{Content}
 use Rattle.rt_object.specs.declared.object.Content.TheVariants as content
 use Rattle.rt_object.specs.declared.object.ObjectParts.{ObjectParts}
-use Rattle.rt_match.specs.declared.bindings.Bound.{Bound}
 use Rattle.rt_system.specs.declared.parts.Task.{Task}
 use Rattle.rt_digraph.specs.Walks.{Has, root}
 use Rattle.rt_digraph.proofs.Lists.{some_is}
 use Rattle.rt_graph.specs.Calls.{IsProcedure, own, content_of, content_at, body_in}
 use Rattle.rt_graph.specs.Needs.{counted, HasNeed}
 use Rattle.rt_graph.specs.Scans.{told_need}
-use Rattle.rt_graph.specs.Tasks.{IsEntry, IsFirstEntry, IsRootNamed, AreRoots}
+use Rattle.rt_graph.specs.Tasks.{IsEntry, IsFirstEntry, IsRootNamed}
 use Rattle.rt_graph.proofs.Stacked.{told_is}
-use Rattle.rt_link_layout.specs.Room.{bricks_in, held, stack_in, stack_words, task_bytes, room}
+use Rattle.rt_link_layout.specs.Room.{bricks_in, held, stack_in, stack_words, task_bytes}
 use Rattle.rt_link_verdict.specs.declared.judged.Judged.{Judged}
 use Rattle.rt_link_verdict.specs.Laws.{EachHasAStack}
 use Rattle.rt_link_verdict.specs.Verdict.{IsJudged}

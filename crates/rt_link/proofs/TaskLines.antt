@@ -1,7 +1,6 @@
 -- The tasks of a linked system are those of its lines.
 use Rattle.std.proofs.Common.{◌≡◌, ◌+◌, ℕ, zero, suc, List, [], ◌∷◌, length, Some, slice_get, refl, sym, ap, ◌∙◌, subst, arith}
 use Rattle.rt_tree_nodes.specs.declared.store.Proc.{Proc}
-use Rattle.rt_object.specs.declared.object.Content.TheVariants as content
 use Rattle.rt_object.specs.declared.object.ObjectParts.{ObjectParts}
 use Rattle.rt_system.specs.declared.parts.Task.{Task}
 use Rattle.rt_image.specs.declared.image.ImageParts.{ImageParts}
@@ -12,7 +11,6 @@ use Rattle.rt_digraph.proofs.Lists.{no_element, some_is}
 use Rattle.rt_graph.specs.Tasks.{IsStackNamed}
 use Rattle.rt_link_verdict.specs.declared.judged.Judged.{Judged}
 use Rattle.rt_link_verdict.specs.Laws.{AreStacks, EachHasAStack}
-use Rattle.rt_link_verdict.specs.Verdict.{IsJudged}
 use Rattle.rt_link_image.specs.Imaged.{image_task, image_tasks}
 use Rattle.rt_link_image.specs.Mapped.{map_task, map_tasks}
 use Rattle.rt_link.specs.Linked.{IsLinked}

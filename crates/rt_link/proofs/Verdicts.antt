@@ -3,7 +3,6 @@ use Rattle.std.proofs.Common.{◌≡◌, ℕ, suc, List, [], ◌∷◌, length, 
 use Rattle.rt_tree_nodes.specs.declared.store.Proc.{Proc}
 use Rattle.rt_object.specs.declared.object.ObjectParts.{ObjectParts}
 use Rattle.rt_match.specs.declared.bindings.Bound.{Bound}
-use Rattle.rt_match.specs.Matching.{Match}
 use Rattle.rt_match.specs.Signatures.{system_of}
 use Rattle.rt_match.proofs.Verdicts.{have_one_table, never_both}
 use Rattle.rt_system.specs.declared.parts.Task.{Task}
@@ -13,20 +12,23 @@ use Rattle.rt_digraph.proofs.Lists.{some_is}
 use Rattle.rt_graph.specs.declared.fault.GraphFault.{GraphFault}
 use Rattle.rt_graph.specs.declared.fault.GraphFault.TheVariants as graph
 use Rattle.rt_graph.specs.Needs.{HasNeed}
-use Rattle.rt_graph.specs.Reach.{NoneIsOnCycle, IsRightCycle}
-use Rattle.rt_graph.specs.Tasks.{AreRoots, HaveEnough}
+use Rattle.rt_graph.specs.Reach.{IsRightCycle}
+use Rattle.rt_graph.specs.Tasks.{AreRoots}
 use Rattle.rt_graph.proofs.Tasked.{root_to}
 use Rattle.rt_graph.proofs.Unique.{one_need}
 use Rattle.rt_link_layout.specs.Room.{room}
 use Rattle.rt_link_verdict.specs.declared.fault.LinkFault.{LinkFault}
 use Rattle.rt_link_verdict.specs.declared.fault.LinkFault.TheVariants as fault
 use Rattle.rt_link_verdict.specs.declared.judged.Judged.{Judged}
-use Rattle.rt_link_verdict.specs.Verdict.{memory, stack_bricks, IsMatched, IsJudged, IsRefusedBy, IsFault}
+use Rattle.rt_link_verdict.specs.Laws.{EachHasAStack}
+use Rattle.rt_link_verdict.specs.Verdict.{stack_bricks, IsMatched, IsJudged, IsRefusedBy, IsFault}
 use Rattle.rt_link_image.specs.Imaged.{image_of}
 use Rattle.rt_link_image.specs.Mapped.{map_of}
-use Rattle.rt_link.specs.Laws.{IsGraphRefusal, IsRefusal}
+use Rattle.rt_link.specs.Laws.{EachIsLinked, IsGraphRefusal, IsRefusal}
 use Rattle.rt_link.specs.Linked.{AreRootNeeds, IsLinked}
+use Rattle.rt_link.specs.Needs.{root_words}
 use Rattle.rt_link.proofs.Bricks.{fellow, the_roots}
+use Rattle.rt_link.proofs.Rooted.{exact}
 
 -- lists of one length that have the same elements
 same_lists : {A : Type 0} (xs ys : List A) → length xs ≡ length ys → ((i : ℕ) (x y : A) → slice_get xs i ≡ Some x → slice_get ys i ≡ Some y → x ≡ y) → xs ≡ ys
@@ -96,6 +98,14 @@ module _ (objects : List ObjectParts) (tasks : List Task) where
           let a = h.each i f.0 f.1 in
           let b = k.each i f.0 f.1 in
           some_is m a.0 (sym at ∙ a.1) ∙ (one_need objects of f.0 a.0 b.0 a.2 b.2 ∙ some_is b.0 n (sym b.1 ∙ is))
+
+pub each_is_linked : EachHasAStack → EachIsLinked
+each_is_linked law objects tasks known judged =
+    let words = root_words known.order.procs known.needs known.roots in (
+      image_of objects known.bindings.of tasks known.roots known.stacks,
+      map_of objects known.stacks tasks words,
+      record { known = known; judged = judged; words = words; root_needs = exact law objects tasks known judged; is_image = refl; is_map = refl },
+    )
 
 pub never_with_fault : (objects : List ObjectParts) (tasks : List Task) (image : ImageParts) (map : Map) (f : LinkFault) → IsLinked objects tasks image map → IsRefusal f → IsFault objects tasks f → ⊥
 never_with_fault objects tasks image map f h r k = no_fault objects tasks h.known h.judged f r k

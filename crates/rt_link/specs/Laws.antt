@@ -17,7 +17,8 @@ use Rattle.rt_graph.specs.Needs.{HasNeed}
 use Rattle.rt_graph.specs.Tasks.{IsRootNamed, IsStackNamed}
 use Rattle.rt_link_verdict.specs.declared.fault.LinkFault.{LinkFault}
 use Rattle.rt_link_verdict.specs.declared.fault.LinkFault.TheVariants as fault
-use Rattle.rt_link_verdict.specs.Verdict.{IsFault}
+use Rattle.rt_link_verdict.specs.declared.judged.Judged.{Judged}
+use Rattle.rt_link_verdict.specs.Verdict.{IsJudged, IsFault}
 use Rattle.rt_link.specs.Linked.{IsLinked}
 
 -- ---- the tasks
@@ -64,6 +65,10 @@ IsRefusal fault.Memory = ⊥
 IsRefusal (fault.Unmatched f) = matching.IsRefusal f
 IsRefusal (fault.Refused f) = IsGraphRefusal f
 IsRefusal (fault.NoRoom bytes) = Unit {0}
+
+-- a system that passes all tests is linked to an image
+abbrev pub EachIsLinked : Type 0
+EachIsLinked = (objects : List ObjectParts) (tasks : List Task) (known : Judged) → IsJudged objects tasks known → (image : ImageParts) × (map : Map) × IsLinked objects tasks image map
 
 -- a system that is linked has no fault
 abbrev pub NeverBoth : Type 0

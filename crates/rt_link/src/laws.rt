@@ -1,6 +1,6 @@
 //! Laws of systems that are linked, as the contracts of functions that do nothing.
 
-ghost use Rattle.rt_link.specs.Laws.{TasksAreThoseOfTheLines, NeverBoth, HaveOneImage};
+ghost use Rattle.rt_link.specs.Laws.{TasksAreThoseOfTheLines, EachIsLinked, NeverBoth, HaveOneImage};
 
 use rt_link_verdict::each_has_a_stack;
 
@@ -12,10 +12,13 @@ pub fn tasks_are_those_of_the_lines()
     each_has_a_stack();
 }
 
-/// A system that is linked has no fault: it fails no test.
+/// A system that passes all tests is linked to an image, and one that is linked fails no test.
 pub fn one_verdict()
-    ensures { NeverBoth }
-{}
+    ensures linked { EachIsLinked }
+    ensures apart { NeverBoth }
+{
+    each_has_a_stack();
+}
 
 /// A system has one image and one map.
 pub fn one_image()

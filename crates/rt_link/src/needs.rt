@@ -10,7 +10,7 @@ use rt_tree_nodes::Proc;
 use rt_words::{List, Memory};
 use std::alloc::Global;
 
-/// Of each root the need that is told with the order.
+/// Of each root the need that is told with the order, as a word.
 pub fn root_words(alloc: Global, judged: &Judged) -> Result<List<u16>, Memory>
     ensures { IfOk result (λ words. words ≡ spec.root_words judged.now.order.procs judged.now.needs judged.now.roots) }
 {

@@ -1,4 +1,4 @@
-use Rattle.std.proofs.Common.{◌∙◌, arith}
+use Rattle.std.proofs.Common.{arith}
 use Rattle.rt_link.proofs.Bricks.{the_roots, the_stacks, are_bricks}
 use Rattle.rt_link.proofs.linked.bricks_are_there.Goals as goal
 
