@@ -1,5 +1,5 @@
 -- Why files aren't accepted, seen from a wider call.
-use Rattle.std.proofs.Common.{◌≡◌, ℕ, ◌≤◌, List, Option, Some, subst, arith}
+use Rattle.std.proofs.Common.{◌≡◌, ℕ, ◌≤◌, List, Option, Some, Result, Ok, Err, IfErr, subst, arith}
 use Rattle.rt_report.specs.declared.fault.FaultLine.{FaultLine}
 use Rattle.rt_words.specs.Causes.{Rose}
 use Rattle.rt_top_files.specs.declared.reading.Unaccepted.{Unaccepted}
@@ -10,6 +10,10 @@ use Rattle.rt_top_files.specs.Reading.{IsUnaccepted, IsDeclined}
 -- a count that rose, seen from before
 rose_from : (a b c : ℕ) → a ≤ b → Rose b c → Rose a c
 rose_from a b c p q = grind arith
+
+pub err_on : {T E : Type 0} (P Q : E → Type 0) (r : Result T E) → ((u : E) → P u → Q u) → IfErr r P → IfErr r Q
+err_on P Q (Ok x) go h = tt
+err_on P Q (Err u) go h = go u h
 
 module _ (Turn : List ℕ → Type 0) (Q : FaultLine → Type 0) (reads reads_after : List ℕ → ℕ) where
   -- one file that isn't accepted, in its turn

@@ -3,3 +3,4 @@ mod Lines
 mod Printed
 mod Places
 mod Whole
+mod LibraryText

@@ -1,5 +1,5 @@
 -- The lines of systems, one after another.
-use Rattle.std.proofs.Common.{◌≡◌, ℕ, ◌+◌, ◌<◌, ◌≤◌, List, [], ◌∷◌, ◌++◌, length, take, drop, get_or, Option, refl, sym, ap, ◌∙◌, subst, arith}
+use Rattle.std.proofs.Common.{◌≡◌, ℕ, zero, suc, ◌+◌, ◌<◌, ◌≤◌, List, [], ◌∷◌, ◌++◌, length, take, drop, get_or, Option, Result, IfErr, refl, sym, ap, ◌∙◌, subst, arith}
 use Rattle.std.proofs.lemmas.List.{take_more, drop_more, take-append-drop}
 use Rattle.std.specs.List.{AllByRecursion}
 use Rattle.std.specs.Str.{IsAscii}
@@ -7,10 +7,11 @@ use Rattle.rt_object.specs.declared.object.ObjectParts.{ObjectParts}
 use Rattle.rt_outside.specs.Files.{Files}
 use Rattle.rt_system.specs.Fields.{IsFileByte}
 use Rattle.rt_system.specs.declared.parts.Entry.{Entry}
+use Rattle.rt_system.specs.declared.parts.Entry.TheVariants as entry
 use Rattle.rt_top_files.specs.Reading.{IsDeclined}
 use Rattle.rt_top_files.specs.declared.reading.Unaccepted.{Unaccepted}
-use Rattle.rt_top_systems.specs.Systems.{IsFileOf, HasEntry, RefusesEntry, HaveEntries, IsTurnOf, RefusesEntries, IsReadAmong, IsAdded}
-use Rattle.rt_top_systems.proofs.Declined.{among}
+use Rattle.rt_top_systems.specs.Systems.{IsFileOf, RefusesLibrary, HasEntry, RefusesEntry, HaveEntries, IsTurnOf, RefusesEntries, IsReadAmong, IsAdded}
+use Rattle.rt_top_systems.proofs.Declined.{err_on, among}
 
 -- the bytes of a file's name are ASCII
 pub ascii : (bs : List ℕ) → AllByRecursion IsFileByte bs → IsAscii bs
@@ -19,6 +20,13 @@ ascii (b ∷ bs) h zero = omega (arith, h.0.1)
 ascii (b ∷ bs) h (suc i) = ascii bs h.1 i
 
 module _ (files : Option Files) where
+  -- the library isn't accepted
+  pub library_declined : (e : Entry) (reads : List ℕ → ℕ) (r : Result ObjectParts Unaccepted) → e ≡ entry.Library → IfErr r (IsDeclined (IsFileOf entry.Library) RefusesLibrary reads reads) → IfErr r (IsDeclined (IsFileOf e) (RefusesEntry files e) reads reads)
+  library_declined e reads r is h =
+      subst (λ d. IfErr r (IsDeclined (IsFileOf d) (RefusesEntry files d) reads reads)) (sym is)
+      (err_on (IsDeclined (IsFileOf entry.Library) RefusesLibrary reads reads) (IsDeclined (IsFileOf entry.Library) (RefusesEntry files entry.Library) reads reads) r
+      (λ u k. among (IsFileOf entry.Library) (RefusesEntry files entry.Library) reads reads (IsFileOf entry.Library) RefusesLibrary reads u (λ name. omega arith) (λ name t. t) (λ f g. g) k) h)
+
   pub as_many : (es : List Entry) (os : List ObjectParts) → HaveEntries files es os → length os ≡ length es
   as_many [] [] h = refl
   as_many [] (o ∷ os) h = absurd h

@@ -6,7 +6,7 @@ use Rattle.rt_system.specs.declared.parts.Entry.{Entry}
 use Rattle.rt_system.specs.declared.parts.SystemParts.{SystemParts}
 use Rattle.rt_top_files.specs.Reading.{HasSystem, RefusesSystem, IsUnaccepted, IsDeclined}
 use Rattle.rt_top_files.specs.declared.reading.Unaccepted.{Unaccepted}
-use Rattle.rt_top_systems.specs.Systems.{HaveEntries, RefusesEntries, IsReadAmong, HasModules, RefusesModules, in_text, in_line, IsInTurn, text, line}
+use Rattle.rt_top_systems.specs.Systems.{HaveEntries, RefusesEntries, IsReadAmong, RefusesModules, in_text, in_line, IsInTurn, text, line}
 use Rattle.rt_top_systems.proofs.Declined.{one_file, among}
 use Rattle.rt_top_systems.proofs.Lines.{as_many}
 
@@ -24,10 +24,7 @@ module _ (files : Option Files) (name : List ℕ) where
         (λ f k. in_line has k)
         (subst (λ es. IsDeclined (IsReadAmong files es) (RefusesEntries files es) between now u) lent (subst (λ fs. IsDeclined (IsReadAmong fs entries) (RefusesEntries fs entries) between now u) same h))
 
-    -- all are accepted
-    pub has_modules : (objects : List ObjectParts) → HaveEntries later entries objects → HasModules files name s objects
-    has_modules objects h = record { has_system = has; have = subst (λ es. HaveEntries files es objects) lent (subst (λ fs. HaveEntries fs entries objects) same h) }
-
+    -- there are no more objects than lines
     pub few : (objects : List ObjectParts) → HaveEntries later entries objects → length s.entries ≤ 64 → length objects ≤ 64
     few objects h l =
         let many : length objects ≡ length entries = as_many later entries objects h in

@@ -1,5 +1,5 @@
 -- The modules of a system, read or compiled in the order of their lines.
-use Rattle.std.specs.Prelude.{◌≡◌, ℕ, List, [], ◌∷◌, ◌++◌, codes, Some}
+use Rattle.std.specs.Prelude.{◌≡◌, ℕ, List, [], ◌∷◌, ◌++◌, codes, Option, Some}
 use Rattle.rt_compile.specs.declared.fault.CompileFault.{CompileFault}
 use Rattle.rt_compile.specs.Texts.{IsObjectOfText, IsFault}
 use Rattle.rt_object.specs.declared.object.ObjectParts.{ObjectParts}
