@@ -1,5 +1,5 @@
 -- Why files aren't accepted, seen from a wider call.
-use Rattle.std.proofs.Common.{◌≡◌, ℕ, ◌≤◌, List, Option, Some, Result, Ok, Err, IfErr, subst, arith}
+use Rattle.std.proofs.Common.{◌≡◌, ℕ, ◌≤◌, List, Option, Some, Result, Ok, Err, IfErr, arith}
 use Rattle.rt_report.specs.declared.fault.FaultLine.{FaultLine}
 use Rattle.rt_words.specs.Causes.{Rose}
 use Rattle.rt_top_files.specs.declared.reading.Unaccepted.{Unaccepted}

@@ -1,4 +1,4 @@
-mod Declined
+pub mod Declined
 mod Lines
 mod Printed
 mod Places

@@ -1,18 +1,16 @@
 -- The lines of modules and the objects of lines, by their places.
-use Rattle.std.proofs.Common.{◌≡◌, ℕ, zero, suc, ◌<◌, List, [], ◌∷◌, length, Option, Some, None, slice_get, refl, subst, arith}
+use Rattle.std.proofs.Common.{◌≡◌, ℕ, zero, suc, ◌<◌, List, [], ◌∷◌, length, Option, Some, slice_get, refl, subst, arith}
 use Rattle.std.proofs.lemmas.List.{length-map}
 use Rattle.std.proofs.lemmas.Option.{slice_get_within}
 use Rattle.rt_digraph.proofs.Lists.{no_element, some_is, get_there}
 use Rattle.rt_object.specs.declared.object.ObjectParts.{ObjectParts}
 use Rattle.rt_outside.specs.Files.{Files}
-use Rattle.rt_match.specs.declared.fault.MatchFault.{MatchFault}
 use Rattle.rt_match.specs.declared.fault.MatchFault.TheVariants.{Memory, Duplicate, Missing, Mismatch, NotSupplied}
-use Rattle.rt_match.specs.Matching.{Signature, module_of, HasBrick, Fails}
+use Rattle.rt_match.specs.Matching.{Signature, module_of, HasBrick}
 use Rattle.rt_match.specs.Signatures.{signatures, system_of}
 use Rattle.rt_graph.specs.Calls.{numbered}
 use Rattle.rt_system.specs.declared.parts.Entry.{Entry}
 use Rattle.rt_top_systems.specs.Systems.{HasEntry, HaveEntries}
-use Rattle.rt_top_systems.specs.Verdicts.{module_in}
 use Rattle.rt_top_systems.specs.Laws.{ObjectsHaveTheirPlaces, FaultsHaveLines}
 use Rattle.rt_top_systems.proofs.Lines.{as_many}
 

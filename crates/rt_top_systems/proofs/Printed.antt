@@ -1,5 +1,5 @@
 -- The procedures of cycles are there.
-use Rattle.std.proofs.Common.{◌≡◌, ◌⊎◌, inl, inr, ℕ, zero, suc, ◌+◌, ◌<◌, List, [], ◌∷◌, length, Option, Some, None, slice_get, refl, sym, ap, ◌∙◌, ◌++◌, subst, arith}
+use Rattle.std.proofs.Common.{◌≡◌, inl, inr, ℕ, zero, suc, ◌+◌, ◌<◌, List, [], ◌∷◌, length, Option, Some, None, slice_get, refl, sym, ap, ◌∙◌, ◌++◌, subst, arith}
 use Rattle.std.proofs.lemmas.Option.{slice_get_within}
 use Rattle.rt_digraph.proofs.Lists.{get_there, get_left, get_cases, long_one}
 use Rattle.rt_digraph.specs.Walks.{Has, IsCycleOf}
@@ -10,7 +10,6 @@ use Rattle.rt_object.specs.declared.object.ObjectParts.{ObjectParts}
 use Rattle.rt_object.specs.declared.object.ProcContent.{ProcContent}
 use Rattle.rt_match.specs.declared.bindings.Bound.{Bound}
 use Rattle.rt_graph.specs.Calls.{brick, numbered, body_in, content_at, HasBody, IsSuppliedProc, Calls, at_point, in_service}
-use Rattle.rt_graph.specs.Reach.{IsRightCycle}
 use Rattle.rt_top_systems.specs.Verdicts.{untitled, titled, name_within, name_at, proc_name}
 use Rattle.rt_top_systems.specs.Laws.{IsPrintedAs, own, supplied, CyclesAreNamed}
 

@@ -1,5 +1,5 @@
 -- Laws of what is read of a system, and of its fault lines.
-use Rattle.std.specs.Prelude.{◌≡◌, ℕ, List, length, Option, Some, None, slice_get}
+use Rattle.std.specs.Prelude.{◌≡◌, ℕ, List, length, Option, Some, slice_get}
 use Rattle.rt_digraph.specs.Walks.{Has}
 use Rattle.rt_tree_nodes.specs.declared.store.Proc.{Proc}
 use Rattle.rt_supplied.specs.Bricks.{SuppliedBrick, brick_numbered}
