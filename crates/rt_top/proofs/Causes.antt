@@ -237,7 +237,7 @@ modules_refused c name f (RefusesModules.in_line has h) = entry_refused c h.entr
 
 systems_refused : (c : Call) (name : List ℕ) (f : FaultLine) → RefusesSystems c.files name f → Caused c (status_of f)
 systems_refused c name f (RefusesSystems.in_modules h) = modules_refused c name f h
-systems_refused c name f (RefusesSystems.in_verdict {objects = objects} {s = s} has h) = subst (Caused c) (sym (verdict_status objects s.entries h.why f h.line)) (middling c 14 (omega arith) (omega arith))
+systems_refused c name f (RefusesSystems.in_verdict {s = s} {objects = objects} has h) = subst (Caused c) (sym (verdict_status objects s.entries h.why f h.line)) (middling c 14 (omega arith) (omega arith))
 
 pub link_caused : (c : Call) (n : LinkNames) (status : ℕ) → LinkEnds c n status → Caused c status
 link_caused c n status h = file_caused c (IsInTurn c.files n.system) (RefusesSystems c.files n.system) (IsLinkedNow c n) (systems_refused c n.system) (λ m k. done_or_failed c (Writes n.image k.made.image ∷ Writes n.map k.made.map ∷ []) 0 m (before c) (same (before c)) k.written (small c 0 (omega arith))) status h

@@ -74,11 +74,11 @@ module _ (words : List (List ℕ)) (c : Call) (status : ℕ) where
 
   -- the files that may be written are those of the one command
   kept_by : (d : Command) → IsBuilt d → IsCommand words d → KeepsOthers (written_by d) c → (names : List (List ℕ)) → MayWrite words names → KeepsOthers names c
-  kept_by d built is kept names (MayWrite.by_command {d = e} also_built also) = subst (λ (x : Command). KeepsOthers (written_by x) c) (one_command words d e is also) kept
+  kept_by d built is kept names (MayWrite.by_command e also_built also) = subst (λ (x : Command). KeepsOthers (written_by x) c) (one_command words d e is also) kept
   kept_by d built is kept names (MayWrite.by_none none) = absurd (none d built is)
 
   none_kept : IsNoCommand words → KeepsOthers [] c → (names : List (List ℕ)) → MayWrite words names → KeepsOthers names c
-  none_kept none kept names (MayWrite.by_command {d = d} built is) = absurd (none d built is)
+  none_kept none kept names (MayWrite.by_command d built is) = absurd (none d built is)
   none_kept none kept names (MayWrite.by_none also) = kept
 
   -- the words are those of one command alone

@@ -4,6 +4,7 @@ use Rattle.rt_deeds.specs.Deeds.{Deed, Writes}
 use Rattle.rt_deeds.specs.Laws.{Both, Among}
 use Rattle.rt_first_go.specs.declared.image.Image.{Image}
 use Rattle.rt_first_go.specs.declared.refusal.Refusal.{Refusal}
+use Rattle.rt_first_go.specs.declared.refusal.Refusal.TheVariants.{NoFile}
 use Rattle.rt_first.specs.declared.module.FirstModule.{FirstModule}
 use Rattle.rt_first.specs.declared.system.FirstSystem.{FirstSystem}
 use Rattle.rt_first_go.specs.Ends.{ChangesTwo}
@@ -68,7 +69,7 @@ module _ (c : Call) (g : Go) where
 
   pub go_kept : (status : ℕ) → go.NothingDone (without_input c) status ⊎ go.ReadFailed (without_input c) g status ⊎ go.IsRefusal (without_input c) g status ⊎ go.IsAccepted (without_input c) g status → KeepsOthers two c
   go_kept status (inl h) = no_file c two h.1
-  go_kept status (inr (inl h)) = reported _ h.file status h.answer
+  go_kept status (inr (inl h)) = reported NoFile h.file status h.answer
   go_kept status (inr (inr (inl h))) = reported h.refusal h.file status h.answer
   go_kept status (inr (inr (inr h))) = by h.done
     where

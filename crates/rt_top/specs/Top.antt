@@ -63,7 +63,7 @@ written_by _ = []
 
 -- the names that may be written by these words
 pub data MayWrite (words : List (List ℕ)) : List (List ℕ) → Type 0 where
-  by_command : {d : Command} → IsBuilt d → IsCommand words d → MayWrite words (written_by d)
+  by_command : (d : Command) → IsBuilt d → IsCommand words d → MayWrite words (written_by d)
   by_none : IsNoCommand words → MayWrite words []
 
 pub record Headline (words : List (List ℕ)) (c : Call) (status : ℕ) : Type 0 where
