@@ -1,0 +1,9 @@
+pub mod Held
+pub mod Sound
+pub mod Values
+pub mod Statements
+pub mod Places
+pub mod Bodies
+pub mod Ways
+pub mod Labels
+pub mod Whole
