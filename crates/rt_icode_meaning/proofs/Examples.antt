@@ -51,9 +51,14 @@ module _ (a : Around) (ls : List Datum) (s : Stands a ls) where
     saves : (k : ℕ) → From a code ls k 1 (Word n ∷ []) ls todo []
     saves zero = omega (arith, s.room)
     saves (suc k) =
-        let less : nat_lt i (length ls) ≡ true = lt-ltb i (length ls) (omega (arith, s.many, inside)) in
-        (omega (arith, s.room), s.many, (small, tt), s.are, tt,
-          subst (λ b. Agrees a.system a.parts a.env a.proc a.leads a.needs a.reached a.size 1 (kept_if b i 1 (Word n) [] ls) (next a.env todo [] ls) todo [] ls (IFollows a.system a.parts a.env a.proc a.leads a.needs a.reached code a.size a.count k)) (sym less) (omega arith, leaves k))
+        let less : nat_lt i (length ls) ≡ true = lt-ltb i (length ls) (omega (arith, s.many, inside)) in (
+          omega (arith, s.room),
+          s.many,
+          (small, tt),
+          s.are,
+          tt,
+          subst (λ b. Agrees a.system a.parts a.env a.proc a.leads a.needs a.reached a.size 1 (kept_if b i 1 (Word n) [] ls) (next a.env todo [] ls) todo [] ls (IFollows a.system a.parts a.env a.proc a.leads a.needs a.reached code a.size a.count k)) (sym less) (omega arith, leaves k),
+        )
 
     pub keeps : (k : ℕ) → From a code ls k 0 [] ls todo []
     keeps zero = omega (arith, s.room)
@@ -103,22 +108,46 @@ module _ (a : Around) (ls : List Datum) (s : Stands a ls) where
     keeps_zero : (k : ℕ) → From a divide_code ls k 5 (Word 0 ∷ []) ls rest []
     keeps_zero zero = omega (arith, s.room)
     keeps_zero (suc k) =
-        let inside_ls : nat_lt i (length ls) ≡ true = lt-ltb i (length ls) (omega (arith, s.many, inside)) in
-        (omega (arith, s.room), s.many, (omega arith, tt), s.are, tt,
-          subst (λ b. Agrees a.system a.parts a.env a.proc a.leads a.needs a.reached a.size 5 (kept_if b i 5 (Word 0) [] ls) (next a.env rest [] ls) rest [] ls (IFollows a.system a.parts a.env a.proc a.leads a.needs a.reached divide_code a.size a.count k)) (sym inside_ls) (omega arith, last k))
+        let inside_ls : nat_lt i (length ls) ≡ true = lt-ltb i (length ls) (omega (arith, s.many, inside)) in (
+          omega (arith, s.room),
+          s.many,
+          (omega arith, tt),
+          s.are,
+          tt,
+          subst (λ b. Agrees a.system a.parts a.env a.proc a.leads a.needs a.reached a.size 5 (kept_if b i 5 (Word 0) [] ls) (next a.env rest [] ls) rest [] ls (IFollows a.system a.parts a.env a.proc a.leads a.needs a.reached divide_code a.size a.count k)) (sym inside_ls) (omega arith, last k),
+        )
 
     reports : (k : ℕ) (g : Proc) → IsOf a.system a.parts.modes int_taken (Procedure g) → From a divide_code ls k 4 (Procedure g ∷ Word 2 ∷ []) ls (Report 2 ∷ rest) (Procedure g ∷ [])
     reports zero g is = omega (arith, deep)
     reports (suc k) g is =
-        let h = calls g is in
-        (omega (arith, deep), s.many, (tt, (omega arith, tt)), s.are, tt,
-          (refl, refl, h.0, h.1, h.2, λ r fits. subst (λ o. (false ≡ is_there o) × (length (on_values o (Word 0 ∷ [])) ≤ a.size) × From a divide_code ls k 5 (on_values o (Word 0 ∷ [])) ls rest (on_values o [])) (sym (h.3 r fits)) (refl, omega (arith, s.room), keeps_zero k)))
+        let h = calls g is in (
+          omega (arith, deep),
+          s.many,
+          (tt, (omega arith, tt)),
+          s.are,
+          tt,
+          (refl, refl, h.0, h.1, h.2, λ r fits. subst (λ o. (false ≡ is_there o) × (length (on_values o (Word 0 ∷ [])) ≤ a.size) × From a divide_code ls k 5 (on_values o (Word 0 ∷ [])) ls rest (on_values o [])) (sym (h.3 r fits)) (refl, omega (arith, s.room), keeps_zero k)),
+        )
 
     reads : (k : ℕ) → From a divide_code ls k 3 (Word 2 ∷ []) ls divide_todo []
     reads zero = omega (arith, s.room)
-    reads (suc k) = (omega (arith, s.room), s.many, (omega arith, tt), s.are, tt,
-      (refl, omega (arith, deep), (int_taken, owns, wide_own,
-        λ d is. let g = procs d is in subst (λ z. From a divide_code ls k 4 (z ∷ Word 2 ∷ []) ls (Report 2 ∷ rest) (z ∷ [])) (sym g.1) (reports k g.0 (subst (λ z. IsOf a.system a.parts.modes int_taken z) g.1 is)))))
+    reads (suc k) = (
+      omega (arith, s.room),
+      s.many,
+      (omega arith, tt),
+      s.are,
+      tt,
+      (
+        refl,
+        omega (arith, deep),
+        (
+          int_taken,
+          owns,
+          wide_own,
+          λ d is. let g = procs d is in subst (λ z. From a divide_code ls k 4 (z ∷ Word 2 ∷ []) ls (Report 2 ∷ rest) (z ∷ [])) (sym g.1) (reports k g.0 (subst (λ z. IsOf a.system a.parts.modes int_taken z) g.1 is)),
+        ),
+      ),
+    )
 
     divides : (k : ℕ) → From a divide_code ls k 2 (Word 0 ∷ Word x ∷ []) ls divide_todo []
     divides zero = omega (arith, deep)

@@ -1,5 +1,5 @@
 -- The plain trees of conditions, statements and bodies that fit are whole.
-use Rattle.std.proofs.Common.{◌≡◌, ℕ, ◌+◌, ◌==◌, Bool, true, false, ◌&&◌, ◌||◌, if◌then◌else◌, List, [], ◌∷◌, map, Option, Some, None, slice_get, refl, sym, ◌∙◌, subst}
+use Rattle.std.proofs.Common.{◌≡◌, ℕ, ◌==◌, Bool, true, false, ◌&&◌, ◌||◌, if◌then◌else◌, List, [], ◌∷◌, map, Option, Some, None, slice_get, refl, sym, ◌∙◌}
 use Rattle.std.proofs.lemmas.Bool.{and_parts}
 use Rattle.rt_modes.specs.declared.mode.Mode.{Mode}
 use Rattle.rt_tree_nodes.specs.declared.brick.Local.{Local}
@@ -24,11 +24,11 @@ use Rattle.rt_tree_nodes.specs.declared.value.Place.{Place}
 use Rattle.rt_tree_nodes.specs.declared.value.Value.{Value}
 use Rattle.rt_tree_nodes.specs.Scopes.{Scope, with, passes}
 use Rattle.rt_tree_nodes.specs.Tree.{Term, Cond, Both, Either, Stmt, Seq, Done, Then}
-use Rattle.rt_tree_nodes.specs.Typing.{Valued, Placed, Found, Variable, Loop, Shared, Private, Row, Spot, OnLocal, OnPath, OnRow, valued, placed, suits, assigned_mode, is_int, compare_fits}
+use Rattle.rt_tree_nodes.specs.Typing.{Valued, Found, Variable, Loop, Shared, Private, Row, Spot, OnLocal, OnPath, OnRow, valued, placed, assigned_mode, is_int, compare_fits}
 use Rattle.rt_tree.specs.Statements as S
 use Rattle.rt_tree.specs.Statements.{Tested, Marked, Sight, one_test, tested, joined_by, comparison_fits, all_fit, nothing, then_part, where_it_holds, in_order, labels_end, sequence, branches_in_order, marked, marks, labelled_tree, sequence_tree, branches_tree, if_tree, call_tree, assigned_tree, start_tree, starts_tree, step_tree, return_tree, stat_tree, body_tree, declares, start_fits, takes_three, is_int_value, is_int_step, assigns, value_returned, returns, is_call}
 use Rattle.rt_frames.proofs.Under.{is_there, there_with, there_some, there_passes, only_there, fit, value_there}
-use Rattle.rt_lower_frames_laws.proofs.Sound.{TermSound, PlaceSound, CondSound, StmtSound, SeqSound, path_place}
+use Rattle.rt_lower_frames_laws.proofs.Sound.{TermSound, CondSound, StmtSound, SeqSound, path_place}
 use Rattle.rt_lower_frames_laws.proofs.Places.{BareSvc, FoundWhole, value_whole, place_whole}
 
 there_if : {A : Type 0} (b : Bool) (o : Option A) → is_there (if b then o else None) ≡ true → (b ≡ true) × (is_there o ≡ true)

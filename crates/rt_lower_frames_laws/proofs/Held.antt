@@ -1,5 +1,5 @@
 -- Code that begins with so many values held and ends with so many, with the points in it and the greatest number.
-use Rattle.std.proofs.Common.{◌≡◌, ℕ, suc, ◌+◌, ◌-◌, ◌≤◌, List, [], ◌∷◌, ◌++◌, map, refl, sym, ap, ◌∙◌, subst, arith}
+use Rattle.std.proofs.Common.{◌≡◌, ℕ, ◌+◌, ◌-◌, ◌≤◌, List, [], ◌∷◌, ◌++◌, map, refl, sym, ap, ◌∙◌, subst, arith}
 use Rattle.std.proofs.lemmas.List.{append-nil, append_assoc, map-append}
 use Rattle.rt_frames.specs.declared.frame.CallPoint.{CallPoint}
 use Rattle.rt_icode.specs.declared.ins.Ins.{Ins}

@@ -1,5 +1,5 @@
 -- Where a label leads nothing is held.
-use Rattle.std.proofs.Common.{◌≡◌, ℕ, ◌+◌, ◌==◌, Bool, true, false, if◌then◌else◌, List, [], ◌∷◌, ◌++◌, length, Option, Some, None, refl, sym, ap, subst, arith}
+use Rattle.std.proofs.Common.{◌≡◌, ℕ, ◌+◌, ◌==◌, Bool, true, false, if◌then◌else◌, List, [], ◌∷◌, ◌++◌, length, Option, Some, None, refl, subst, arith}
 use Rattle.rt_tree_nodes.specs.Tree.{Stmt, Keep, Clear, Put, Run, Toss, Goto, GiveBack, Back, Switch, Inner, If, For, To, While, Recover, Seq, Done, Then, Mark}
 use Rattle.rt_work_state.specs.Items.{or_else}
 use Rattle.rt_icode.specs.declared.ins.Ins.{Ins}
@@ -9,7 +9,7 @@ use Rattle.rt_lower.specs.Values.{value}
 use Rattle.rt_lower.specs.Code.{Leads, nowhere, condition, for_head, statement, sequence, extent, reach, span, place, place_inside}
 use Rattle.rt_lower.proofs.Lengths.{condition_length, statement_length, sequence_length}
 use Rattle.rt_lower_frames_laws.specs.Heights.{behind}
-use Rattle.rt_lower_frames_laws.proofs.Held.{after, Held}
+use Rattle.rt_lower_frames_laws.proofs.Held.{after}
 use Rattle.rt_lower_frames_laws.proofs.Sound.{StmtSound, SeqSound}
 use Rattle.rt_lower_frames_laws.proofs.Values.{value_held}
 use Rattle.rt_lower_frames_laws.proofs.Statements.{condition_held, head_ends, statement_held, sequence_held}

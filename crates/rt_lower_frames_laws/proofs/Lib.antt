@@ -7,3 +7,4 @@ pub mod Bodies
 pub mod Ways
 pub mod Labels
 pub mod Whole
+pub mod Modules

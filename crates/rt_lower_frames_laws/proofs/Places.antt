@@ -1,5 +1,5 @@
 -- The plain trees of places and values that fit are whole.
-use Rattle.std.proofs.Common.{◌≡◌, ℕ, zero, suc, ◌-◌, ◌==◌, nat_lt, codes, Bool, true, false, ◌&&◌, ◌||◌, if◌then◌else◌, List, [], ◌∷◌, map, length, Option, Some, None, option_map, slice_get, refl, sym, ap, ◌∙◌, subst, arith}
+use Rattle.std.proofs.Common.{◌≡◌, ℕ, zero, suc, ◌-◌, ◌==◌, nat_lt, codes, Bool, true, false, ◌||◌, if◌then◌else◌, List, [], ◌∷◌, map, length, Option, Some, None, option_map, slice_get, refl, sym, ap, ◌∙◌, subst, arith}
 use Rattle.std.proofs.lemmas.Bool.{and_parts}
 use Rattle.std.proofs.lemmas.Bool.Decides.{nat_tests}
 use Rattle.rt_modes.specs.declared.mode.Field.{Field}
@@ -19,7 +19,7 @@ use Rattle.rt_tree_nodes.specs.declared.value.Place.{Place, out-Place, roll-Plac
 use Rattle.rt_tree_nodes.specs.declared.value.Place as places
 use Rattle.rt_tree_nodes.specs.declared.value.Value.{Value, out-Value, roll-Value, map-Value}
 use Rattle.rt_tree_nodes.specs.declared.value.Value as values
-use Rattle.rt_tree_nodes.specs.Scopes.{Scope, Face, Layer, with, passes, is_svc, items_of, field_at, field_is, fields_of, first_fields, is_errors, is_streams, errors_of, streams_of, is_error_data, is_stream_data, is_label_layer, is_int_layer, is_byte_layer, takes, gives, faces, svc_mode, scope_of, with_locals}
+use Rattle.rt_tree_nodes.specs.Scopes.{Scope, Face, Layer, with, passes, is_svc, items_of, field_at, field_is, fields_of, first_fields, is_errors, is_streams, errors_of, streams_of, is_error_data, is_stream_data, is_label_layer, is_int_layer, is_byte_layer, takes, gives, faces, svc_mode, scope_of}
 use Rattle.rt_tree_nodes.specs.Tree.{Term, Path, ItemAt, Svc, Terms}
 use Rattle.rt_tree_nodes.specs.Typing.{Valued, Placed, Called, Found, Variable, Loop, Shared, Private, Row, Spot, OnLocal, OnPath, OnRow, is_int, suits, all_suit, terms_of, local_found, kept, item_found, field_by, field_found, field_path, field_in, element_by, element_found, element_path, element_in, led, led_by, led_spot, led_tree, read_mode, read_tree, reference_mode, reference_path, reference_tree, length_by, length_mode, length_path, length_tree, dyadic_tree, call_mode, signature_by, one_callee, one_place, one_value, called, placed, valued}
 use Rattle.rt_frames.proofs.Under.{is_there, there_with, there_some, there_passes, only_there, fit, value_there}

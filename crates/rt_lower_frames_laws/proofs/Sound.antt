@@ -1,6 +1,6 @@
 -- Plain trees whose code is whole: the task's own data are read and written, and nothing else is done with them; and a division is one.
 use Rattle.std.specs.Prelude.{◌≡◌, true}
-use Rattle.rt_tree_nodes.specs.Tree.{Term, Num, Str, Name, Own, Get, Ref, RefRow, Count, CountRow, One, Two, Over, Apply, ApplyBy, Path, ItemAt, Svc, FieldOf, Elem, ElemRow, Past, Terms, NoTerm, MoreTerms, Cond, Is, Both, Either, Stmt, Keep, Clear, Put, Run, Toss, Goto, GiveBack, Back, Switch, Inner, If, For, To, While, Recover, Seq, Done, Then, Mark}
+use Rattle.rt_tree_nodes.specs.Tree.{Term, Get, Ref, RefRow, Count, CountRow, One, Two, Over, Apply, ApplyBy, Path, ItemAt, Svc, FieldOf, Elem, ElemRow, Past, Terms, NoTerm, MoreTerms, Cond, Is, Both, Either, Stmt, Keep, Put, Run, Toss, GiveBack, Switch, Inner, If, For, To, While, Seq, Done, Then, Mark}
 use Rattle.rt_frames.specs.Points.{is_division}
 
 abbrev mutual

@@ -1,5 +1,5 @@
 -- The code of conditions and statements begins and ends with no value held.
-use Rattle.std.proofs.Common.{◌≡◌, ℕ, suc, ◌+◌, ◌≤◌, Bool, true, false, List, [], ◌∷◌, ◌++◌, length, max, refl, ap, ◌∙◌, subst, arith}
+use Rattle.std.proofs.Common.{◌≡◌, ℕ, suc, ◌+◌, ◌≤◌, Bool, true, false, List, [], ◌∷◌, ◌++◌, max, refl, ap, ◌∙◌, subst, arith}
 use Rattle.std.proofs.lemmas.List.{append-nil, append_assoc}
 use Rattle.rt_tree_nodes.specs.Tree.{Term, Cond, Is, Both, Either, Stmt, Keep, Clear, Put, Run, Toss, Goto, GiveBack, Back, Switch, Inner, If, For, To, While, Recover, Seq, Done, Then, Mark}
 use Rattle.rt_tree.specs.Depth.{depth, address_depth, condition_depth, statement_depth, sequence_depth}
@@ -10,8 +10,8 @@ use Rattle.rt_frames_laws.specs.Plain.{term_points, path_points, condition_point
 use Rattle.rt_icode.specs.declared.ins.Ins.{Ins}
 use Rattle.rt_icode.specs.declared.ins.Ins.TheVariants as ins
 use Rattle.rt_layouts.specs.declared.layouts.Layouts.{Layouts}
-use Rattle.rt_lower.specs.Values.{width_of, site_of, written, value, address}
-use Rattle.rt_lower.specs.Code.{Leads, nowhere, cases, condition, for_head, statement, sequence, extent}
+use Rattle.rt_lower.specs.Values.{width_of, site_of, value, address}
+use Rattle.rt_lower.specs.Code.{Leads, cases, condition, for_head, statement, sequence}
 use Rattle.rt_lower_frames_laws.specs.Heights.{takes, leaves, points_at}
 use Rattle.rt_lower_frames_laws.proofs.Held.{after, Held, held_more, held_both, held_none, held_one, held_then, held_first}
 use Rattle.rt_lower_frames_laws.proofs.Sound.{CondSound, StmtSound, SeqSound, TermSound}

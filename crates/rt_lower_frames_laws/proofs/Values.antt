@@ -1,6 +1,6 @@
 -- The code of a value leaves one value more, that of a place's address one where the place takes a word, with the points of the plain
 -- tree and within its depth.
-use Rattle.std.proofs.Common.{◌≡◌, ℕ, zero, suc, ◌+◌, ◌-◌, ◌≤◌, ◌==◌, Bool, true, false, ◌&&◌, ◌||◌, not, if◌then◌else◌, List, [], ◌∷◌, ◌++◌, max, Option, Some, None, refl, sym, ap, ◌∙◌, subst, arith}
+use Rattle.std.proofs.Common.{◌≡◌, ℕ, zero, suc, ◌+◌, ◌-◌, ◌≤◌, ◌==◌, Bool, true, false, ◌&&◌, ◌||◌, not, if◌then◌else◌, List, [], ◌∷◌, ◌++◌, max, refl, sym, ap, ◌∙◌, subst, arith}
 use Rattle.std.proofs.lemmas.List.{append-nil}
 use Rattle.rt_modes.specs.declared.mode.Mode.{Mode}
 use Rattle.rt_tree_nodes.specs.declared.operators.Op1.{Op1}
@@ -26,7 +26,7 @@ use Rattle.rt_lower.specs.declared.site.Site.TheVariants as site
 use Rattle.rt_lower.specs.Values.{width_of, site_of, field_site, wanted, read, written, reached, row_reached, told, element, altered, merged, is_sure, divided, division_of, value, address, values, alone}
 use Rattle.rt_lower_frames_laws.specs.Heights.{takes, leaves, points_at}
 use Rattle.rt_lower_frames_laws.specs.Heights as heights
-use Rattle.rt_lower_frames_laws.proofs.Held.{Held, held_more, held_to, held_from, held_both, held_none, held_one, held_call, held_then, held_first}
+use Rattle.rt_lower_frames_laws.proofs.Held.{Held, held_more, held_to, held_both, held_none, held_one, held_call, held_then, held_first}
 use Rattle.rt_lower_frames_laws.proofs.Sound.{TermSound, PathSound, TermsSound, PlaceSound}
 
 -- ---- small facts

@@ -1,8 +1,6 @@
 -- What each way leads to finds as many values as the way brings.
-use Rattle.std.proofs.Common.{◌≡◌, ℕ, zero, suc, ◌+◌, ◌-◌, Bool, true, false, List, [], ◌∷◌, ◌++◌, length, Option, Some, None, slice_get, refl, sym, ap, ◌∙◌, subst, arith, length-append}
+use Rattle.std.proofs.Common.{◌≡◌, ℕ, suc, ◌+◌, ◌-◌, Bool, true, false, List, [], ◌∷◌, ◌++◌, length, Some, slice_get, refl, sym, ap, ◌∙◌, subst, arith, length-append}
 use Rattle.rt_tree_nodes.specs.Tree.{Term, Cond, Is, Both, Either, Stmt, Keep, Clear, Put, Run, Toss, Goto, GiveBack, Back, Switch, Inner, If, For, To, While, Recover, Seq, Done, Then, Mark}
-use Rattle.rt_tree.specs.Depth.{depth, condition_depth, statement_depth, sequence_depth}
-use Rattle.rt_frames_laws.specs.Plain.{term_points, condition_points, statement_points, sequence_points}
 use Rattle.rt_icode.specs.declared.ins.OwnItem.TheVariants as item
 use Rattle.rt_icode.specs.declared.ins.Ins.{Ins}
 use Rattle.rt_icode.specs.declared.ins.Ins.TheVariants as ins
@@ -10,11 +8,11 @@ use Rattle.rt_icode.specs.Within.{leads}
 use Rattle.rt_layouts.specs.declared.layouts.Layouts.{Layouts}
 use Rattle.rt_lower.specs.Values.{width_of, value}
 use Rattle.rt_lower.specs.Code.{Leads, nowhere, cases, condition, for_head, statement, sequence, extent}
-use Rattle.rt_lower.proofs.Lengths.{condition_length, sequence_length}
+use Rattle.rt_lower.proofs.Lengths.{sequence_length}
 use Rattle.rt_lower_laws.proofs.Calm.{is_still, all_still, reported, reported_at, first_true, second_true, Calm, calm_both, plainly, value_calm, alone_calm, assigned_calm, followed_calm}
-use Rattle.rt_lower_frames_laws.specs.Heights.{takes, leaves, brings, behind, heights}
-use Rattle.rt_lower_frames_laws.proofs.Held.{after, Held}
-use Rattle.rt_lower_frames_laws.proofs.Sound.{TermSound, CondSound, StmtSound, SeqSound}
+use Rattle.rt_lower_frames_laws.specs.Heights.{takes, leaves, brings, behind}
+use Rattle.rt_lower_frames_laws.proofs.Held.{after}
+use Rattle.rt_lower_frames_laws.proofs.Sound.{CondSound, StmtSound, SeqSound}
 use Rattle.rt_lower_frames_laws.proofs.Values.{value_held}
 use Rattle.rt_lower_frames_laws.proofs.Statements.{condition_held, head_ends, statement_held, sequence_held}
 
@@ -67,7 +65,7 @@ both_land hs k h m g xs ys e f t a b = lands_append hs k h m g xs ys e f (a (the
 first_lands : (hs : List ℕ) (k h m g : ℕ) (i : Ins) (ys : List Ins) → m ≡ k + 1 → behind i h ≡ g → There hs k h (i ∷ ys) → Lands hs k h i → (There hs m g ys → AllLand hs m g ys) → AllLand hs k h (i ∷ ys)
 first_lands hs k h m g i ys e f t a b = both_land hs k h m g (i ∷ []) ys (omega (arith, e)) f t (λ u. (a, tt)) b
 
-some_same : (a b : ℕ) → Some a ≡ Some b → a ≡ b
+pub some_same : {A : Type 0} (a b : A) → Some a ≡ Some b → a ≡ b
 some_same a b e = cc
 
 -- an instruction that leads to where so many are held

@@ -1,5 +1,5 @@
 -- The values that the code of a procedure holds.
-use Rattle.std.proofs.Common.{◌≡◌, ℕ, zero, suc, ◌+◌, ◌-◌, ◌≤◌, Bool, true, false, ◌&&◌, List, [], ◌∷◌, ◌++◌, length, map, Option, Some, None, slice_get, refl, sym, ap, ◌∙◌, subst, arith}
+use Rattle.std.proofs.Common.{◌≡◌, ℕ, zero, suc, ◌+◌, ◌-◌, ◌≤◌, true, false, ◌&&◌, List, [], ◌∷◌, ◌++◌, length, map, Option, Some, None, slice_get, refl, sym, ap, ◌∙◌, subst, arith}
 use Rattle.std.specs.List.{AllByRecursion, list_all}
 use Rattle.std.proofs.lemmas.Bool.{and_parts}
 use Rattle.rt_modes.specs.declared.mode.Mode.{Mode, out-Mode}
@@ -17,11 +17,9 @@ use Rattle.rt_tree.specs.Depth.{sequence_depth}
 use Rattle.rt_tree.specs.Modules.{record_stands, brick_fits, sort_fits, procedure_fits, body_fits, proc_fits, is_here, stands_alone, parameters_first, local_stands, numbers_all, numbers_behind, is_last, closes, is_short, first_sight, every_node_fits}
 use Rattle.rt_tree.specs.Statements.{labels_end, marked, next_by}
 use Rattle.rt_tree.specs.Within.{tree_of}
-use Rattle.rt_frames.specs.declared.frame.Frame.{Frame}
-use Rattle.rt_frames.specs.Frames.{frame}
 use Rattle.rt_frames.proofs.Under.{there_with, there_passes}
 use Rattle.rt_frames.proofs.Within.{tested_at}
-use Rattle.rt_frames_laws.specs.Laws.{tree_in, plain_tree, IsPlain, PointsArePlain}
+use Rattle.rt_frames_laws.specs.Laws.{tree_in, plain_tree, PointsArePlain}
 use Rattle.rt_frames_laws.specs.Plain.{sequence_points}
 use Rattle.rt_icode.specs.declared.ins.Ins.{Ins}
 use Rattle.rt_icode.specs.declared.ins.Ins.TheVariants as ins
@@ -30,13 +28,13 @@ use Rattle.rt_layouts.specs.declared.layouts.Layouts.{Layouts}
 use Rattle.rt_layouts.specs.Layouts.{number}
 use Rattle.rt_lower.specs.Code.{leads_in, sequence, place, code_of}
 use Rattle.rt_lower_frames_laws.specs.Heights.{takes, leaves, brings, behind, heights, Holds, points_of, told}
-use Rattle.rt_lower_frames_laws.specs.Laws.{IsFramed, ValuesAreThoseOfFrames}
-use Rattle.rt_lower_frames_laws.proofs.Held.{after, Enough, Low, Held, held_first, held_then, points_are}
+use Rattle.rt_lower_frames_laws.specs.Laws.{ValuesAreThoseOfFrames}
+use Rattle.rt_lower_frames_laws.proofs.Held.{Enough, Low, Held, held_first, held_then, points_are}
 use Rattle.rt_lower_frames_laws.proofs.Sound.{SeqSound}
 use Rattle.rt_lower_frames_laws.proofs.Statements.{sequence_held}
 use Rattle.rt_lower_frames_laws.proofs.Places.{svc_bare}
 use Rattle.rt_lower_frames_laws.proofs.Bodies.{body_sound}
-use Rattle.rt_lower_frames_laws.proofs.Ways.{There, Lands, AllLand, Ground, lands_append, sequence_lands}
+use Rattle.rt_lower_frames_laws.proofs.Ways.{There, Lands, AllLand, Ground, lands_append, some_same, sequence_lands}
 use Rattle.rt_lower_frames_laws.proofs.Labels.{Grounded, place_ground}
 
 -- ---- the values before each instruction, by its number
@@ -48,9 +46,6 @@ as_long h (i ∷ is) = ap suc (as_long (behind i h) is)
 all_low : (most h : ℕ) (is : List Ins) → Low most h is → AllByRecursion (λ n. n ≤ most) (heights h is)
 all_low most h [] e = tt
 all_low most h (i ∷ is) e = (e.0, all_low most (behind i h) is e.1)
-
-some_same : {A : Type 0} (a b : A) → Some a ≡ Some b → a ≡ b
-some_same a b e = cc
 
 enough_at : (h : ℕ) (is : List Ins) (k g : ℕ) (i : Ins) → Enough h is → slice_get is k ≡ Some i → slice_get (heights h is) k ≡ Some g → takes i ≤ g
 enough_at h [] k g i e a b = absurd cc
