@@ -8,7 +8,7 @@ use Rattle.rt_tree_nodes.specs.declared.operators.Op2.TheVariants as two
 use Rattle.rt_tree_nodes.specs.declared.store.Proc.{Proc}
 use Rattle.rt_tree_nodes.specs.declared.store.Datum.{Datum}
 use Rattle.rt_tree_nodes.specs.declared.store.Datum.TheVariants.{Word, Procedure}
-use Rattle.rt_tree_nodes.specs.Tree.{Num, Over, ItemAt, Keep, Put, Done, Then}
+use Rattle.rt_tree_nodes.specs.Tree.{Num, Over, ItemAt, Keep, Put, Done}
 use Rattle.rt_work_state.specs.Stores.{erp}
 use Rattle.rt_work_state.specs.Items.{Item, Do, Leave, Local, Report, Stand, item}
 use Rattle.rt_work.specs.Task.{next}

@@ -18,9 +18,8 @@ use Rattle.rt_tree.specs.Stored.{System, HasBrick, brick, IsCandidate}
 use Rattle.rt_tree.specs.Within.{parameters_of}
 use Rattle.rt_work_state.specs.Items.{Env, Item, Next, Reads, Writes, Calls, Returns, Jumps, Leaps, Recovers, Errors}
 use Rattle.rt_work.specs.Task.{next}
-use Rattle.rt_resolve.specs.World.{World, Code}
 use Rattle.rt_resolve.specs.Systems.{world}
-use Rattle.rt_meaning.specs.Step.{Act, entered, leapt, on_values}
+use Rattle.rt_meaning.specs.Step.{entered, leapt, on_values}
 use Rattle.rt_meaning_laws.specs.Slots.{LeadsTo, LeadsOwn, IsOf}
 use Rattle.rt_meaning_laws.specs.Systems.{SystemFits}
 use Rattle.rt_frames.specs.declared.frame.CallPoint.{CallPoint}
