@@ -1,8 +1,8 @@
 -- A location stands at one place, which has one mode.
-use Rattle.std.proofs.Common.{◌≡◌, ℕ, List, [], Some, slice_get, codes, sym, ap, ◌∙◌}
+use Rattle.std.proofs.Common.{◌≡◌, ℕ, List, [], ◌∷◌, Some, slice_get, codes, sym, ap, ◌∙◌}
 use Rattle.rt_modes.specs.declared.mode.Field.{Field}
 use Rattle.rt_modes.specs.declared.mode.Mode.{Mode}
-use Rattle.rt_modes.specs.declared.mode.Mode.TheVariants as mode
+use Rattle.rt_modes.specs.declared.mode.Mode.TheOpen.{Mode-F}
 use Rattle.rt_modes.specs.declared.mode.ModeTable.{ModeTable}
 use Rattle.rt_modes.specs.FullMode.{FullMode}
 use Rattle.rt_tree_nodes.specs.declared.brick.Brick.{Brick}
@@ -16,8 +16,7 @@ use Rattle.rt_tree.specs.Stored as s
 use Rattle.rt_tree.specs.Stored.{System, StandsAt, module_of, text_mode}
 use Rattle.rt_meaning_laws.specs.Laws.{OneModeAPlace, OneModeAnOwn}
 use Rattle.rt_meaning_laws.specs.Slots.{IsInt, IsOwn, ern, erp, input, output}
-use Rattle.rt_tree_nodes.proofs.Same.{out_same}
-use Rattle.rt_meaning_laws.proofs.Modes.{out_int}
+use Rattle.rt_meaning_laws.proofs.Errors.{words_at, said}
 use Rattle.rt_meaning_laws.proofs.Small.{some_same}
 
 fields_of : BrickSort → List Field
@@ -51,7 +50,7 @@ one_mode_a_place ps t u m n l h g = sym h.same ∙ one_place h.at g.at ∙ g.sam
 
 -- an INT has one full mode, whatever the records
 int_full : (t : ModeTable) (m : Mode) → IsInt m → FullMode t m ≡ codes "INT"
-int_full t m e = ap (FullMode t) (out_same m mode.Int (e ∙ sym out_int))
+int_full t m e = said t m (codes "INT" ∷ []) (words_at m Mode-F.Int e)
 
 pub one_mode_an_own : OneModeAnOwn
 one_mode_an_own t u k m n (ern h) (ern g) = int_full t m h ∙ sym (int_full u n g)
