@@ -1,7 +1,8 @@
 ghost use Rattle.std.specs.Prelude.{◌≡◌, ◌≢◌, ◌⊎◌, ℕ, List, Option, map, drop, string_bytes, IfOk, IfErr};
 ghost use Rattle.std.specs.IoError.{error_kind};
 ghost use Rattle.std.specs.Vec.Iter.{into_iter_items};
-ghost use Rattle.rt_run.specs.Inputs.{feed};
+ghost use Rattle.rt_outside.specs.Files.{Files};
+ghost use Rattle.rt_run.specs.Inputs.{Feed, feed};
 ghost use Rattle.rt_top.specs.Calls.{the_call, NothingDone, Says};
 ghost use Rattle.rt_top.specs.Top.{words_line};
 ghost use Rattle.rtl2.specs.Answers.{Answers};
@@ -54,7 +55,7 @@ pub fn run<R: Eprint, S: Store, I: Source, O: Sink>(
         },
         Err(error) => match error.kind() {
             ErrorKind::OutOfMemory => NO_MEMORY,
-            _ => with_usage(rt, tell(output, b"FAULT 10\n", WRONG_WORDS)),
+            _ => refuse_words(rt, output),
         },
     }
 }
@@ -92,6 +93,16 @@ pub fn answer<R: Eprint, S: Store, I: Source, O: Sink>(
         }
     }
     with_usage(rt, top(alloc, words, store, input, output))
+}
+
+/// Puts the fault line of words that no command has, and writes the usage on standard error.
+fn refuse_words<R: Eprint, O: Sink>(rt: &R, output: &mut O) -> u8
+    ensures { (files : Option Files) (reads writes : List ℕ → ℕ) (left : Feed) (faults : ℕ) → Says words_line 10 (the_call files files reads reads writes writes
+        (O.written output.old) (O.written output.new)
+        (O.faults output.old) (O.faults output.new)
+        left left faults faults) result }
+{
+    with_usage(rt, tell(output, b"FAULT 10\n", WRONG_WORDS))
 }
 
 // The same status; for wrong words the usage is written on standard error.
