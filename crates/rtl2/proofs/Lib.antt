@@ -1,2 +1,3 @@
 pub mod Moved
+pub mod Results
 pub mod Words
