@@ -1,5 +1,5 @@
 -- What a command leaves.
-use Rattle.std.proofs.Common.{◌≡◌, ℕ, ◌≤◌, Bool, true, false, List, [], ◌∷◌, Option, Some, None, refl, sym, subst, arith}
+use Rattle.std.proofs.Common.{◌≡◌, ℕ, ◌≤◌, true, false, List, Option, Some, None, refl, sym, subst, arith}
 use Rattle.std.specs.Io.KnownBytes.{Keeps}
 use Rattle.rt_deeds.specs.Deeds.{Deed, Outside, IsLater, Performed}
 use Rattle.rt_outside.specs.Files.{Files}

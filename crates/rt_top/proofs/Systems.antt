@@ -1,5 +1,5 @@
 -- Why systems aren't accepted: what is said of the modules, and of the verdict, as what is said of the system.
-use Rattle.std.proofs.Common.{◌≡◌, ℕ, List, Option, Result, Ok, Err, IfErr}
+use Rattle.std.proofs.Common.{ℕ, List, Option, Result, Ok, Err, IfErr}
 use Rattle.rt_object.specs.declared.object.ObjectParts.{ObjectParts}
 use Rattle.rt_outside.specs.Files.{Files}
 use Rattle.rt_system.specs.declared.parts.SystemParts.{SystemParts}
