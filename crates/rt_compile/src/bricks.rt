@@ -1,6 +1,7 @@
 //! The bricks of an object, in the order of the module's.
 
 ghost use Rattle.std.specs.Prelude.{◌≡◌, ◌++◌, ◌∷◌, [], map, Some, IfOk, OnOk};
+ghost use Rattle.rt_tree.specs.Within.{Within};
 ghost use Rattle.rt_compile.specs.Objects as object;
 ghost use Rattle.rt_compile.specs.Walks as walks;
 
@@ -20,6 +21,7 @@ pub(crate) fn compiled(
     module: &TypedModule,
     code: List<ProcCode>,
 ) -> Result<List<Brick>, Memory>
+    requires { Within «module».now }
     ensures { IfOk result (λ bs. map (λ b. Some b) bs ≡ walks.compiled layouts.now «module».now 0 «module».now.bricks code) }
 {
     let mut bricks = List::new(alloc, module.bricks().len())?;
@@ -48,6 +50,7 @@ fn add(
     left: &mut IntoIter<ProcCode>,
     bricks: &mut List<Brick>,
 ) -> Result<(), Memory>
+    requires { Within «module».now }
     ensures added { OnOk result (map (λ b. Some b) bricks.new ≡ map (λ b. Some b) bricks.old ++ object.brick_by layouts.now «module».now number brick.now (walks.first brick.now.sort left.old.rest.items) ∷ []) }
     ensures left { OnOk result (left.new.rest.items ≡ walks.behind brick.now.sort left.old.rest.items) }
 {
@@ -75,6 +78,7 @@ fn brick_by(
     brick: &rt_tree::Brick,
     code: Option<ProcCode>,
 ) -> Result<Brick, Memory>
+    requires { Within «module».now }
     ensures { IfOk result (λ b. object.brick_by layouts.now «module».now number brick.now code ≡ Some b) }
 {
     let kind = kind_by(alloc, layouts, module, number, brick, code)?;
@@ -90,6 +94,7 @@ fn kind_by(
     brick: &rt_tree::Brick,
     code: Option<ProcCode>,
 ) -> Result<BrickKind, Memory>
+    requires { Within «module».now }
     ensures { IfOk result (λ k. object.kind_by layouts.now «module».now number brick.now.kind brick.now.sort code ≡ Some k) }
 {
     let sort = &brick.sort;

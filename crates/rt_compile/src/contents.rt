@@ -2,6 +2,7 @@
 
 ghost use Rattle.std.specs.Prelude.{◌≡◌, Some, IfOk, option_map};
 ghost use Rattle.rt_frames.specs.Frames.{frame};
+ghost use Rattle.rt_tree.specs.Within.{Within};
 ghost use Rattle.rt_tree_nodes.specs.Scopes.{scope_of};
 ghost use Rattle.rt_compile_data.specs.Data.{data_of};
 ghost use Rattle.rt_compile.specs.Objects as object;
@@ -26,6 +27,7 @@ pub(crate) fn content(
     sort: &BrickSort,
     code: Option<ProcCode>,
 ) -> Result<Content, Memory>
+    requires { Within «module».now }
     ensures { IfOk result (λ c. object.content_by layouts.now «module».now number sort.now code ≡ Some c) }
 {
     match sort {
@@ -54,6 +56,7 @@ fn procedure(
     items: u16,
     code: ProcCode,
 ) -> Result<ProcContent, Memory>
+    requires { Within «module».now }
     ensures { IfOk result (λ c. option_map (λ f. object.procedure_of mode.now items f code) (frame «module».now number) ≡ Some c) }
 {
     let Frame {
@@ -83,6 +86,7 @@ fn procedure(
 
 /// The frame of a brick, where it is an own or ENT procedure.
 fn frame(alloc: Global, module: &TypedModule, number: usize) -> Result<Frame, Memory>
+    requires { Within «module».now }
     ensures { IfOk result (λ f. frame «module».now number ≡ Some f) }
 {
     match u16::try_from(number) {

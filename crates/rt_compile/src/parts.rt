@@ -1,6 +1,7 @@
 //! The parts of the object of a module.
 
 ghost use Rattle.std.specs.Prelude.{◌≡◌, map, IfOk, IfErr};
+ghost use Rattle.rt_tree.specs.Within.{Within};
 ghost use Rattle.rt_lower.specs.Code.{intermediate};
 ghost use Rattle.rt_templates.specs.Expanded.{proc_of};
 ghost use Rattle.rt_compile.specs.Objects as object;
@@ -19,12 +20,13 @@ use rt_tree::TypedModule;
 use rt_words::{List, Memory};
 use std::alloc::Global;
 
-/// The parts of the object of a module.
+/// The parts of the object of a module that is `Within`.
 ///
 /// # Errors
 ///
 /// The first procedure whose code has more than 16,383 words; or want of memory.
 pub(crate) fn parts_of(alloc: Global, module: &TypedModule) -> Result<ObjectParts, CompileFault>
+    requires { Within «module».now }
     ensures object { IfOk result (object.IsObjectOf «module».now) }
     ensures fault { IfErr result (IsCodeFault «module».now) }
 {
@@ -38,6 +40,7 @@ fn parts_by(
     layouts: &Layouts,
     module: &TypedModule,
 ) -> Result<ObjectParts, CompileFault>
+    requires { Within «module».now }
     ensures object { IfOk result (object.IsObjectWith layouts.now «module».now) }
     ensures fault { IfErr result (IsCodeFaultWith layouts.now «module».now) }
 {

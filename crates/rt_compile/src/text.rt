@@ -61,6 +61,12 @@ fn object_parts(alloc: Global, text: &[u8]) -> Result<ObjectParts, CompileFault>
     ensures fault { AllByRecursion IsByte text.now → IfErr result (IsFault text.now) }
     ensures only { (tree : ModuleParts) → AllByRecursion IsByte text.now → IsTree text.now tree → IfErr result IsOfCode }
 {
+    bytes_are_small(text);
     let module = typed_module(alloc, text)?;
     parts_of(alloc, &module)
 }
+
+/// Bytes are below 256, as their type says.
+fn bytes_are_small(_bytes: &[u8])
+    ensures { AllByRecursion IsByte _bytes.now }
+{}

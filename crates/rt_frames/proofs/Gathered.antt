@@ -1,6 +1,6 @@
 -- What a walk over statements takes is the depth of their plain tree, whether it recovers, and the points.
 use Rattle.std.proofs.Common.{◌≡◌, ℕ, max, Bool, true, false, ◌||◌, List, [], ◌∷◌, ◌++◌, map, Option, Some, None, option_map, refl, sym, ap, ◌∙◌, arith, append_assoc}
-use Rattle.std.proofs.lemmas.List.{append-nil}
+use Rattle.std.proofs.lemmas.List.{append-nil, map-append}
 use Rattle.rt_tree_nodes.specs.declared.statement.Body.{Body, out-Body, roll-Body, map-Body}
 use Rattle.rt_tree_nodes.specs.declared.statement.Body as bodies
 use Rattle.rt_tree_nodes.specs.declared.statement.Branch.{Branch, out-Branch, roll-Branch, map-Branch}
@@ -28,13 +28,21 @@ use Rattle.rt_frames.specs.declared.statements.Walk.{Walk}
 use Rattle.rt_frames.specs.Measures.{address_of}
 use Rattle.rt_frames.specs.Points as p
 use Rattle.rt_frames.specs.Points.{value_points, place_points, address_words}
+use Rattle.rt_frames.specs.Saturated.{saturated, saturated_point, saturated_points}
 use Rattle.rt_frames.specs.Walks as k
 use Rattle.rt_frames.specs.Walks.{Part, in_turn, with_points, with_depth, over}
 use Rattle.rt_frames.proofs.Fused.{value_fused, place_fused}
+use Rattle.rt_frames.proofs.Sums.{max_saturated}
 
 -- what was taken, and more
 abbrev pub plus : Walk → ℕ → Bool → List CallPoint → Walk
-plus w d r ps = record { deep = max w.deep d; recovers = w.recovers || r; calls = w.calls ++ ps }
+plus w d r ps = record { deep = max w.deep (saturated d); recovers = w.recovers || r; calls = w.calls ++ saturated_points ps }
+
+abbrev walk_of : ℕ → Bool → List CallPoint → Walk
+walk_of d r ps = record { deep = d; recovers = r; calls = ps }
+
+alike : {d e : ℕ} {r s : Bool} {ps qs : List CallPoint} → d ≡ e → r ≡ s → ps ≡ qs → walk_of d r ps ≡ walk_of e s qs
+alike a b c = rw (a, b, c) refl
 
 or_assoc : (a b c : Bool) → (a || b) || c ≡ a || (b || c)
 or_assoc true b c = refl
@@ -51,10 +59,12 @@ max_zero : (a : ℕ) → max a 0 ≡ a
 max_zero a = grind arith
 
 plus_plus : (w : Walk) (d e : ℕ) (r s : Bool) (ps qs : List CallPoint) → plus (plus w d r ps) e s qs ≡ plus w (max d e) (r || s) (ps ++ qs)
-plus_plus w d e r s ps qs = rw (max_assoc w.deep d e, or_assoc w.recovers r s, append_assoc w.calls ps qs) refl
+plus_plus w d e r s ps qs =
+    alike (max_assoc w.deep (saturated d) (saturated e) ∙ ap (λ (n : ℕ). max w.deep n) (max_saturated d e)) (or_assoc w.recovers r s)
+    (append_assoc w.calls (saturated_points ps) (saturated_points qs) ∙ ap (λ (cs : List CallPoint). w.calls ++ cs) (sym (map-append saturated_point ps qs)))
 
 plus_nothing : (w : Walk) → plus w 0 false [] ≡ w
-plus_nothing w = rw (max_zero w.deep, or_false w.recovers, append-nil w.calls) refl
+plus_nothing w = alike (max_zero w.deep) (or_false w.recovers) (append-nil w.calls)
 
 same_plus : (w : Walk) {d e : ℕ} {r s : Bool} {ps qs : List CallPoint} → d ≡ e → r ≡ s → ps ≡ qs → plus w d r ps ≡ plus w e s qs
 same_plus w a b c = rw (a, b, c) refl
@@ -63,7 +73,7 @@ points_plus : (w : Walk) (d : ℕ) (ps : List CallPoint) → with_points w d ps 
 points_plus w d ps = rw (or_false w.recovers) refl
 
 depth_plus : (w : Walk) (d : ℕ) → with_depth w d ≡ plus w d false []
-depth_plus w d = rw (or_false w.recovers, append-nil w.calls) refl
+depth_plus w d = alike refl (sym (or_false w.recovers)) (sym (append-nil w.calls))
 
 -- a part takes this
 pub record Takes (f : Part) (d : ℕ) (r : Bool) (ps : List CallPoint) : Type 0 where
@@ -306,7 +316,7 @@ module _ (c : Scope) where
   or_true false = refl
 
   recovering_takes : Takes k.recovering 0 true []
-  recovering_takes = record { is = λ w. rw (max_zero w.deep, or_true w.recovers, append-nil w.calls) refl }
+  recovering_takes = record { is = λ w. alike (sym (max_zero w.deep)) (sym (or_true w.recovers)) (sym (append-nil w.calls)) }
 
   for_depth : (a b d e : ℕ) → max a (max b (max d e)) ≡ max (max a (max b d)) e
   for_depth a b d e = grind arith

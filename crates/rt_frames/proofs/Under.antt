@@ -10,7 +10,6 @@ use Rattle.rt_tree_nodes.specs.declared.brick.Local.{Local}
 use Rattle.rt_tree_nodes.specs.declared.brick.Local.TheVariants as local
 use Rattle.rt_tree_nodes.specs.declared.operators.Op1.{Op1}
 use Rattle.rt_tree_nodes.specs.declared.operators.Op2.{Op2}
-use Rattle.rt_tree_nodes.specs.declared.operators.Op2.TheVariants as two
 use Rattle.rt_tree_nodes.specs.declared.value.Callee.{Callee, out-Callee, roll-Callee, map-Callee}
 use Rattle.rt_tree_nodes.specs.declared.value.Callee as callees
 use Rattle.rt_tree_nodes.specs.declared.value.Callee.TheFolds.{ind-Value, ind-Place}
@@ -22,16 +21,16 @@ use Rattle.rt_tree_nodes.specs.declared.value.Value as values
 use Rattle.rt_tree_nodes.specs.Scopes.{Scope, Face, with, only, passes, items_of, is_svc, field_at, svc_mode}
 use Rattle.rt_tree_nodes.specs.Tree.{Term, Num, Str, Name, Own, Get, Ref, RefRow, Count, CountRow, One, Two, Over, Apply, ApplyBy, Terms}
 use Rattle.rt_tree_nodes.specs.Typing.{Valued, Found, Variable, Loop, Shared, Private, Row, Spot, OnLocal, OnPath, OnRow, is_int, suits, all_suit, terms_of, local_found, kept, field_found, field_by, field_in, element_found, element_by, element_in, led, led_by, led_spot, led_tree, dyadic_tree, call_mode, signature_by}
-use Rattle.rt_tree.specs.Depth.{depth, address_depth, arguments_depth, above, behind}
+use Rattle.rt_tree.specs.Depth.{depth, address_depth, arguments_depth, behind}
 use Rattle.rt_frames.specs.declared.frame.CallPoint.{CallPoint}
 use Rattle.rt_frames.specs.declared.frame.Target.{Target}
 use Rattle.rt_frames.specs.declared.frame.Target.TheVariants as target
 use Rattle.rt_frames.specs.declared.measure.Address.{Address}
 use Rattle.rt_frames.specs.declared.measure.Address.TheVariants as address
-use Rattle.rt_frames.specs.Measures.{address_of, depth_of, words, taken, array_address}
+use Rattle.rt_frames.specs.Measures.{address_of, depth_of, words, taken}
 use Rattle.rt_frames.specs.Points.{CalleePoints, PlacePoints, ValuePoints, callee_step, place_step, value_step, callee_points, place_points, value_points, values_of, address_words, arguments_points, call_point, error_points, is_division, is_safe}
 use Rattle.rt_frames.proofs.Fused.{callee_layer, place_layer, value_layer, callee_at, place_at, value_at}
-use Rattle.rt_frames.proofs.Reached.{words_of_spot, spot_of_field, spot_of_element, read_depth, reference_depth, length_depth}
+use Rattle.rt_frames.proofs.Reached.{array_address, words_of_spot, spot_of_field, spot_of_element, read_depth, reference_depth, length_depth, dyadic_depth}
 
 -- a point within so many words
 pub record IsUnder (t : ℕ) (p : CallPoint) : Type 0 where
@@ -132,11 +131,6 @@ depth_some (Two o a b) = grind arith
 depth_some (Over o a b) = grind arith
 depth_some (Apply b vs) = grind arith
 depth_some (ApplyBy m f vs) = grind arith
-
-dyadic_depth : (o : Op2) (a b : Term) → depth (dyadic_tree o a b) ≡ above (depth a) (depth b)
-dyadic_depth two.Divide a b = refl
-dyadic_depth two.Mod a b = refl
-dyadic_depth _ a b = refl
 
 taken_above : (a : Address) → depth_of a ≤ taken a
 taken_above address.Local = omega arith

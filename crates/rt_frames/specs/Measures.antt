@@ -1,4 +1,4 @@
--- What the code keeps of places and values, in the terms of the definitions.
+-- What the code keeps of places and values, in the terms of the definitions. Its numbers have 16 bits.
 use Rattle.std.specs.Prelude.{◌≡◌, ℕ, ◌+◌, ◌++◌, max, if◌then◌else◌, Bool, true, false, ◌&&◌, ◌||◌, List, [], ◌∷◌, Option, Some, None}
 use Rattle.rt_modes.specs.declared.mode.Mode.{Mode, out-Mode}
 use Rattle.rt_modes.specs.declared.mode.Mode.TheOpen.{Mode-F}
@@ -15,6 +15,7 @@ use Rattle.rt_frames.specs.declared.values.Called.{Called}
 use Rattle.rt_frames.specs.declared.frame.CallPoint.{CallPoint}
 use Rattle.rt_frames.specs.declared.values.Passing as passing_node
 use Rattle.rt_frames.specs.Points.{waits, CalleePoints, ValuePoints}
+use Rattle.rt_frames.specs.Saturated.{saturated, saturated_points}
 
 abbrev pub greater : ℕ → ℕ → ℕ
 greater a b = max a b
@@ -35,27 +36,32 @@ address_of (OnLocal i) = address.Local
 address_of (OnPath p) = address.Path (address_depth p)
 address_of (OnRow v) = address.Row (depth v)
 
+abbrev pub saturated_address : Address → Address
+saturated_address address.Local = address.Local
+saturated_address (address.Path d) = address.Path (saturated d)
+saturated_address (address.Row d) = address.Row (saturated d)
+
 -- it was measured, and has its mode, its number and its depth
 pub record IsMeasured (v : Valued) (m : Measured) : Type 0 where
   pub mode : mode_found m.mode ≡ v.mode
   pub number : m.number ≡ v.number
-  pub depth : m.depth ≡ depth v.tree
+  pub depth : m.depth ≡ saturated (depth v.tree)
 
 pub record IsReached (p : Placed) (r : Reached) : Type 0 where
   pub found : place_found r.found ≡ p.found
-  pub address : r.address ≡ address_of p.tree
+  pub address : r.address ≡ saturated_address (address_of p.tree)
 
 -- ---- fields, elements and where references lead, as the code finds them
 
 abbrev pub array_address : Mode-F Mode → Address → ℕ → Address
-array_address (Mode-F.Array n m) (address.Path d) v = address.Path (behind d v)
+array_address (Mode-F.Array n m) (address.Path d) v = address.Path (saturated (behind d v))
 array_address _ a v = a
 
 -- an element: of an array at an address, or of the row behind a REF ARRAY
 abbrev pub element_address : Option Found → Address → ℕ → Address
 element_address (Some (Shared m)) a v = array_address (out-Mode m) a v
 element_address (Some (Private m)) a v = array_address (out-Mode m) a v
-element_address (Some (Row m)) (address.Row d) v = address.Path (above d v)
+element_address (Some (Row m)) (address.Row d) v = address.Path (saturated (above d v))
 element_address _ a v = a
 
 abbrev pub int_or_none : {A : Type 0} → Option Mode → Option A → Option A
@@ -86,15 +92,16 @@ taken (address.Row d) = d
 
 -- ---- calls
 
+-- the depth of a call of a variable of this depth, or of a brick, which has depth 0
+abbrev pub call_depth : ℕ → ℕ → Terms → ℕ
+call_depth d takes ts = max (max 1 d) (saturated (arguments_depth takes ts))
+
 -- what is called was measured; its depth is that of the variable, 0 for a brick
 pub record IsCalled (f : CalleePoints) (c : Called) : Type 0 where
   pub mode : mode_found c.mode ≡ f.called.mode
   pub takes : c.takes ≡ f.takes
   pub target : c.target ≡ f.target
-  pub depth : (ts : Terms) → depth (f.called.tree ts) ≡ max (max 1 c.depth) (arguments_depth f.takes ts)
-
-abbrev pub call_depth : ℕ → ℕ → Terms → ℕ
-call_depth d takes ts = max (max 1 d) (arguments_depth takes ts)
+  pub depth : (ts : Terms) → saturated (depth (f.called.tree ts)) ≡ call_depth c.depth f.takes ts
 
 -- the mode of the result of a call with these arguments
 abbrev pub result_mode : Option Mode → List Valued → Option Mode
@@ -129,15 +136,15 @@ passing_of p cs = record { suit = p.suit; depth = p.depth; at = p.at; offset = p
 abbrev pub with_argument : Passing → Option Mode → Option ℕ → ℕ → List CallPoint → Passing
 with_argument s m n d ps = record {
   suit = s.suit && first_suits m n s.wanted;
-  depth = max s.depth (s.offset + d);
-  at = s.at + 1;
-  offset = s.offset + 1;
+  depth = max s.depth (saturated (s.offset + d));
+  at = saturated (s.at + 1);
+  offset = saturated (s.offset + 1);
   wanted = after_first s.wanted;
   calls = s.calls ++ ps;
 }
 
 abbrev pub pass_one : Passing → ValuePoints → Passing
-pass_one s v = with_argument s v.valued.mode v.valued.number (depth v.valued.tree) (v.points s.at)
+pass_one s v = with_argument s v.valued.mode v.valued.number (saturated (depth v.valued.tree)) (saturated_points (v.points s.at))
 
 abbrev pub is_none : List Mode → Bool
 is_none [] = true

@@ -1,5 +1,5 @@
 -- What is taken of the stack, statement by statement: the greatest depth so far, whether the procedure recovers, and the
--- points so far.
+-- points so far, in numbers of 16 bits.
 use Rattle.std.specs.Prelude.{ℕ, true, max, List, [], ◌∷◌, ◌++◌, map, Option, Some, None}
 use Rattle.rt_tree_nodes.specs.declared.statement.Body.{Body}
 use Rattle.rt_tree_nodes.specs.declared.statement.Branch.{Branch}
@@ -21,12 +21,16 @@ use Rattle.rt_frames.specs.declared.measure.Address.TheVariants as address
 use Rattle.rt_frames.specs.declared.statements.Walk.{Walk}
 use Rattle.rt_frames.specs.Measures.{address_of}
 use Rattle.rt_frames.specs.Points.{value_points, place_points, address_words}
+use Rattle.rt_frames.specs.Saturated.{saturated, saturated_points}
 
 abbrev pub with_points : Walk → ℕ → List CallPoint → Walk
-with_points w d ps = record { deep = max w.deep d; recovers = w.recovers; calls = w.calls ++ ps }
+with_points w d ps = record { deep = max w.deep (saturated d); recovers = w.recovers; calls = w.calls ++ saturated_points ps }
+
+abbrev pub deeper : Walk → ℕ → Walk
+deeper w d = record { deep = max w.deep d; recovers = w.recovers; calls = w.calls }
 
 abbrev pub with_depth : Walk → ℕ → Walk
-with_depth w d = record { deep = max w.deep d; recovers = w.recovers; calls = w.calls }
+with_depth w d = deeper w (saturated d)
 
 abbrev pub recovering : Walk → Walk
 recovering w = record { deep = w.deep; recovers = true; calls = w.calls }

@@ -10,4 +10,4 @@ mod values;
 
 pub use frame::{CallPoint, Frame, Target};
 pub use laws::numbers_are_small;
-pub use procedure::frame_of;
+pub use procedure::{frame_of, saturating_frame_of};

@@ -1,11 +1,11 @@
-//! Depths, in words of the stack, and sums of them.
+//! Depths, in words of the stack, and sums of them, which saturate: 65,535 stands for each greater one.
 
-ghost use Rattle.std.specs.Prelude.{◌≡◌, ◌+◌, IfOk};
+ghost use Rattle.std.specs.Prelude.{◌≡◌, ◌+◌};
 ghost use Rattle.rt_frames.specs.Measures as spec;
+ghost use Rattle.rt_frames.specs.Saturated.{saturated};
 ghost use Rattle.rt_tree.specs.Depth as depths;
 
 use rt_tree::{Found, ValueMode};
-use rt_words::Memory;
 
 /// What is known of a value that was walked.
 #[derive(Clone, Copy)]
@@ -60,15 +60,18 @@ impl Address {
     }
 }
 
-/// The sum of two numbers of words; where it has more than 16 bits, which no procedure within the bounds comes to, this is
-/// answered as want of memory.
-pub(crate) fn plus(a: u16, b: u16) -> Result<u16, Memory>
-    ensures { IfOk result (λ s. s ≡ a + b) }
+/// A number in 16 bits.
+pub(crate) fn word(number: usize) -> u16
+    ensures { result ≡ saturated number }
 {
-    match a.checked_add(b) {
-        Some(sum) => Ok(sum),
-        None => Err(Memory),
-    }
+    if number > 65535 { 65535 } else { number as u16 }
+}
+
+/// The sum of two numbers of words.
+pub(crate) fn plus(a: u16, b: u16) -> u16
+    ensures { result ≡ saturated (a + b) }
+{
+    a.saturating_add(b)
 }
 
 pub(crate) fn greater(a: u16, b: u16) -> u16
@@ -78,18 +81,18 @@ pub(crate) fn greater(a: u16, b: u16) -> u16
 }
 
 /// The depth of a second operand above the word of the first.
-pub(crate) fn above(first: u16, second: u16) -> Result<u16, Memory>
-    ensures { IfOk result (λ d. d ≡ depths.above first second) }
+pub(crate) fn above(first: u16, second: u16) -> u16
+    ensures { result ≡ saturated (depths.above first second) }
 {
-    Ok(greater(first, plus(second, 1)?))
+    greater(first, plus(second, 1))
 }
 
 /// The depth of a value behind a place whose address takes so many words.
-pub(crate) fn behind(address: u16, value: u16) -> Result<u16, Memory>
-    ensures { IfOk result (λ d. d ≡ depths.behind address value) }
+pub(crate) fn behind(address: u16, value: u16) -> u16
+    ensures { result ≡ saturated (depths.behind address value) }
 {
     if address == 0 {
-        Ok(value)
+        value
     } else {
         above(address, value)
     }

@@ -1,7 +1,8 @@
 //! What statements take, and the frame of a procedure.
 
-ghost use Rattle.std.specs.Prelude.{◌≡◌, IfOk, OnOk, map};
+ghost use Rattle.std.specs.Prelude.{◌≡◌, OnOk, map};
 ghost use Rattle.rt_tree_nodes.specs.Code as seen;
+ghost use Rattle.rt_frames.specs.Saturated.{saturated};
 ghost use Rattle.rt_frames.specs.Walks as spec;
 
 use crate::frame::CallPoint;
@@ -23,7 +24,7 @@ pub(crate) struct Walk {
 
 impl Walk {
     fn note(&mut self, depth: u16)
-        ensures { self.new ≡ spec.with_depth self.old depth }
+        ensures { self.new ≡ spec.deeper self.old depth }
     {
         self.deep = greater(self.deep, depth);
     }
@@ -74,7 +75,7 @@ impl Walk {
     {
         let first = value(alloc, scope, &mut self.calls, 0, left)?;
         let second = value(alloc, scope, &mut self.calls, 1, right)?;
-        self.note(above(first.depth, second.depth)?);
+        self.note(above(first.depth, second.depth));
         Ok(())
     }
 
@@ -95,7 +96,7 @@ impl Walk {
             reached.address.words(),
             assigned,
         )?;
-        self.note(over(reached.address, measured.depth)?);
+        self.note(over(reached.address, measured.depth));
         Ok(())
     }
 
@@ -234,11 +235,11 @@ impl Walk {
 }
 
 /// The depth of a value behind the place to which it is assigned.
-fn over(place: Address, value: u16) -> Result<u16, Memory>
-    ensures { IfOk result (λ d. d ≡ spec.over place value) }
+fn over(place: Address, value: u16) -> u16
+    ensures { result ≡ saturated (spec.over place value) }
 {
     match place {
         Address::Path(depth) => behind(depth, value),
-        _ => Ok(value),
+        _ => value,
     }
 }

@@ -10,9 +10,10 @@ ghost use Rattle.rt_frames.specs.declared.frame.Target.TheVariants as target;
 ghost use Rattle.rt_frames.specs.Measures as measures;
 ghost use Rattle.rt_frames.specs.Measures.{IsMeasured, IsReached, IsCalled};
 ghost use Rattle.rt_frames.specs.Points as spec;
+ghost use Rattle.rt_frames.specs.Saturated.{saturated, saturated_points};
 
 use crate::frame::{CallPoint, Target};
-use crate::measure::{Address, Measured, Reached, above, behind, greater, plus};
+use crate::measure::{Address, Measured, Reached, above, behind, greater, plus, word};
 use rt_modes::Mode;
 use rt_tree::{
     Callee, Found, Lent, Op1, Op2, Place, Scope, Signature, Value, ValueMode, dyadic_mode,
@@ -32,7 +33,7 @@ pub(crate) fn place<'a>(
     place: &Place,
 ) -> Result<Reached<'a>, Memory>
     ensures reached { IfOk result (IsReached (spec.place_points (seen.scope scope.now) place.now).placed) }
-    ensures calls { OnOk result (calls.new ≡ calls.old ++ (spec.place_points (seen.scope scope.now) place.now).points below) }
+    ensures calls { OnOk result (calls.new ≡ calls.old ++ saturated_points ((spec.place_points (seen.scope scope.now) place.now).points below)) }
 {
     match place {
         Place::Local(i) => Ok(Reached {
@@ -53,10 +54,9 @@ pub(crate) fn place<'a>(
         }
         Place::Element(array, subscript) => {
             let array = self::place(alloc, scope, calls, below, array.get())?;
-            let above = plus(below, array.address.words())?;
+            let above = plus(below, array.address.words());
             let subscript = value(alloc, scope, calls, above, subscript.get())?;
-            let reached = element(array, subscript)?;
-            Ok(reached)
+            Ok(element(array, subscript))
         }
         Place::Through(reference) => {
             let reference = value(alloc, scope, calls, below, reference.get())?;
@@ -79,11 +79,11 @@ fn field<'a>(scope: &Scope<'a>, record: Reached<'a>, k: u16) -> Reached<'a>
     }
 }
 
-fn element<'a>(array: Reached<'a>, subscript: Measured<'a>) -> Result<Reached<'a>, Memory>
-    ensures found { IfOk result (λ r. seen.place_found r.found ≡ with (seen.place_found array.entry.found) (λ f. measures.int_or_none (seen.mode_found subscript.entry.mode) (typing.element_found f))) }
-    ensures address { IfOk result (λ r. r.address ≡ measures.element_address (seen.place_found array.entry.found) array.entry.address subscript.entry.depth) }
+fn element<'a>(array: Reached<'a>, subscript: Measured<'a>) -> Reached<'a>
+    ensures found { seen.place_found result.found ≡ with (seen.place_found array.entry.found) (λ f. measures.int_or_none (seen.mode_found subscript.entry.mode) (typing.element_found f)) }
+    ensures address { result.address ≡ measures.element_address (seen.place_found array.entry.found) array.entry.address subscript.entry.depth }
 {
-    let address = element_address(array.found, array.address, subscript.depth)?;
+    let address = element_address(array.found, array.address, subscript.depth);
     let found = match array.found {
         Some(found) => match subscript.mode {
             Some(mode) if mode.is_int() => found.element(),
@@ -91,32 +91,28 @@ fn element<'a>(array: Reached<'a>, subscript: Measured<'a>) -> Result<Reached<'a
         },
         None => None,
     };
-    Ok(Reached { found, address })
+    Reached { found, address }
 }
 
-fn element_address(
-    found: Option<Found<'_>>,
-    address: Address,
-    subscript: u16,
-) -> Result<Address, Memory>
-    ensures { IfOk result (λ a. a ≡ measures.element_address (seen.place_found found.entry) address subscript) }
+fn element_address(found: Option<Found<'_>>, address: Address, subscript: u16) -> Address
+    ensures { result ≡ measures.element_address (seen.place_found found.entry) address subscript }
 {
     match found {
-        None => Ok(address),
+        None => address,
         Some(found) => match address {
-            Address::Local => Ok(address),
+            Address::Local => address,
             Address::Path(depth) => {
                 if is_array(found) {
-                    Ok(Address::Path(behind(depth, subscript)?))
+                    Address::Path(behind(depth, subscript))
                 } else {
-                    Ok(address)
+                    address
                 }
             }
             Address::Row(depth) => {
                 if is_row(found) {
-                    Ok(Address::Path(above(depth, subscript)?))
+                    Address::Path(above(depth, subscript))
                 } else {
-                    Ok(address)
+                    address
                 }
             }
         },
@@ -165,7 +161,7 @@ pub(crate) fn value<'a>(
     value: &Value,
 ) -> Result<Measured<'a>, Memory>
     ensures measured { IfOk result (IsMeasured (spec.value_points (seen.scope scope.now) value.now).valued) }
-    ensures calls { OnOk result (calls.new ≡ calls.old ++ (spec.value_points (seen.scope scope.now) value.now).points below) }
+    ensures calls { OnOk result (calls.new ≡ calls.old ++ saturated_points ((spec.value_points (seen.scope scope.now) value.now).points below)) }
 {
     match value {
         Value::Number(n) => Ok(Measured {
@@ -193,11 +189,10 @@ pub(crate) fn value<'a>(
         }
         Value::Dyadic(operator, left, right) => {
             let left = self::value(alloc, scope, calls, below, left.get())?;
-            let above = plus(below, 1)?;
+            let above = plus(below, 1);
             let right = self::value(alloc, scope, calls, above, right.get())?;
             error_point(calls, below, *operator, right.number)?;
-            let result = dyadic(*operator, left, right)?;
-            Ok(result)
+            Ok(dyadic(*operator, left, right))
         }
         Value::Call(called, arguments) => {
             let called = callee(alloc, scope, calls, below, called)?;
@@ -277,16 +272,12 @@ fn monadic(operator: Op1, operand: Measured<'_>) -> Measured<'_>
     plain(mode, operand.depth)
 }
 
-fn dyadic<'a>(
-    operator: Op2,
-    left: Measured<'a>,
-    right: Measured<'a>,
-) -> Result<Measured<'a>, Memory>
-    ensures mode { IfOk result (λ r. seen.mode_found r.mode ≡ with (seen.mode_found left.entry.mode) (λ x. with (seen.mode_found right.entry.mode) (typing.dyadic_mode operator x))) }
-    ensures depth { IfOk result (λ r. r.depth ≡ depths.above left.entry.depth right.entry.depth) }
-    ensures number { IfOk result (λ r. r.number ≡ None) }
+fn dyadic<'a>(operator: Op2, left: Measured<'a>, right: Measured<'a>) -> Measured<'a>
+    ensures mode { seen.mode_found result.mode ≡ with (seen.mode_found left.entry.mode) (λ x. with (seen.mode_found right.entry.mode) (typing.dyadic_mode operator x)) }
+    ensures depth { result.depth ≡ saturated (depths.above left.entry.depth right.entry.depth) }
+    ensures number { result.number ≡ None }
 {
-    let depth = above(left.depth, right.depth)?;
+    let depth = above(left.depth, right.depth);
     let mode = match left.mode {
         Some(first) => match right.mode {
             Some(second) => dyadic_mode(operator, first, second),
@@ -294,7 +285,7 @@ fn dyadic<'a>(
         },
         None => None,
     };
-    Ok(plain(mode, depth))
+    plain(mode, depth)
 }
 
 /// Adds the error point of a division, where it has one.
@@ -304,7 +295,7 @@ fn error_point(
     operator: Op2,
     divisor: Option<u16>,
 ) -> Result<(), Memory>
-    ensures { OnOk result (calls.new ≡ calls.old ++ spec.error_points operator divisor below) }
+    ensures { OnOk result (calls.new ≡ calls.old ++ saturated_points (spec.error_points operator divisor below)) }
 {
     let safe = match divisor {
         Some(number) => number != 0 && number != 65535,
@@ -341,7 +332,7 @@ fn callee<'a>(
     called: &Callee,
 ) -> Result<Called<'a>, Memory>
     ensures called { IfOk result (IsCalled (spec.callee_points (seen.scope scope.now) called.now)) }
-    ensures calls { OnOk result (calls.new ≡ calls.old ++ (spec.callee_points (seen.scope scope.now) called.now).points below) }
+    ensures calls { OnOk result (calls.new ≡ calls.old ++ saturated_points ((spec.callee_points (seen.scope scope.now) called.now).points below)) }
 {
     match called {
         Callee::Brick(b) => Ok(Called {
@@ -405,8 +396,8 @@ fn arguments(
     wanted: &[Mode],
 ) -> Result<Passed, Memory>
     ensures suit { IfOk result (λ r. r.suit ≡ typing.all_suit wanted.now (spec.values_of (map (spec.value_points (seen.scope scope.now)) values.now))) }
-    ensures depth { IfOk result (λ r. r.depth ≡ depths.arguments_depth offset (typing.terms_of (spec.values_of (map (spec.value_points (seen.scope scope.now)) values.now)))) }
-    ensures calls { OnOk result (calls.new ≡ calls.old ++ spec.arguments_points at (map (spec.value_points (seen.scope scope.now)) values.now)) }
+    ensures depth { IfOk result (λ r. r.depth ≡ saturated (depths.arguments_depth offset (typing.terms_of (spec.values_of (map (spec.value_points (seen.scope scope.now)) values.now))))) }
+    ensures calls { OnOk result (calls.new ≡ calls.old ++ saturated_points (spec.arguments_points at (map (spec.value_points (seen.scope scope.now)) values.now))) }
 {
     let mut passing = Passing {
         suit: true,
@@ -417,7 +408,7 @@ fn arguments(
     };
     for argument in values {
         let found = value(alloc, scope, calls, passing.at, argument)?;
-        passing = one_more(passing, found)?;
+        passing = one_more(passing, found);
     }
     Ok(all_passed(passing))
 }
@@ -433,19 +424,16 @@ fn all_passed(passing: Passing<'_>) -> Passed
 }
 
 /// One argument more.
-fn one_more<'a>(passing: Passing<'a>, argument: Measured<'_>) -> Result<Passing<'a>, Memory>
-    ensures { IfOk result (λ r. (cs ps : List CallPoint) → measures.passing_of r (cs ++ ps) ≡ measures.with_argument (measures.passing_of passing.entry cs) (seen.mode_found argument.entry.mode) argument.entry.number argument.entry.depth ps) }
+fn one_more<'a>(passing: Passing<'a>, argument: Measured<'_>) -> Passing<'a>
+    ensures { (cs ps : List CallPoint) → measures.passing_of result (cs ++ ps) ≡ measures.with_argument (measures.passing_of passing.entry cs) (seen.mode_found argument.entry.mode) argument.entry.number argument.entry.depth ps }
 {
-    let depth = greater(passing.depth, plus(passing.offset, argument.depth)?);
-    let at = plus(passing.at, 1)?;
-    let offset = plus(passing.offset, 1)?;
-    Ok(Passing {
+    Passing {
         suit: passing.suit && first_suits(&argument, passing.wanted),
-        depth,
-        at,
-        offset,
+        depth: greater(passing.depth, plus(passing.offset, argument.depth)),
+        at: plus(passing.at, 1),
+        offset: plus(passing.offset, 1),
         wanted: after_first(passing.wanted),
-    })
+    }
 }
 
 fn after_first(modes: &[Mode]) -> &[Mode]
@@ -493,13 +481,13 @@ fn call<'a>(
     ensures mode { IfOk result (λ r. seen.mode_found r.mode ≡ measures.result_mode (seen.mode_found called.entry.mode) (spec.values_of (map (spec.value_points (seen.scope scope.now)) values.now))) }
     ensures depth { IfOk result (λ r. r.depth ≡ measures.call_depth called.entry.depth called.entry.takes (typing.terms_of (spec.values_of (map (spec.value_points (seen.scope scope.now)) values.now)))) }
     ensures number { IfOk result (λ r. r.number ≡ None) }
-    ensures calls { OnOk result (calls.new ≡ calls.old ++ (spec.arguments_points (below + called.entry.takes) (map (spec.value_points (seen.scope scope.now)) values.now) ++ spec.call_point called.entry.target below (length values.now))) }
+    ensures calls { OnOk result (calls.new ≡ calls.old ++ saturated_points (spec.arguments_points (below + called.entry.takes) (map (spec.value_points (seen.scope scope.now)) values.now) ++ spec.call_point called.entry.target below (length values.now))) }
 {
     let signature = match called.mode {
         Some(mode) => mode.procedure(),
         None => None,
     };
-    let at = plus(below, called.takes)?;
+    let at = plus(below, called.takes);
     let found = arguments(
         alloc,
         scope,
@@ -533,15 +521,12 @@ fn call_point(
     below: u16,
     count: usize,
 ) -> Result<(), Memory>
-    ensures { OnOk result (calls.new ≡ calls.old ++ spec.call_point target below count) }
+    ensures { OnOk result (calls.new ≡ calls.old ++ saturated_points (spec.call_point target below count)) }
 {
-    if count > 65535 {
-        return Err(Memory);
-    }
     match target {
         Some(target) => calls.push(CallPoint {
             depth: below,
-            args: count as u16,
+            args: word(count),
             target,
         }),
         None => Ok(()),

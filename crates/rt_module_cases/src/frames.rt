@@ -1,10 +1,14 @@
 //! Frames of procedures: parameters, locals, the greatest depth, and the points where they call.
 
+ghost use Rattle.std.specs.List.{AllByRecursion};
+ghost use Rattle.rt_items.specs.Ranges.{IsByte};
+ghost use Rattle.rt_tree.specs.Within.{Within};
+
 use crate::faults::tell;
 use crate::systems::brick_named;
 use rt_case_texts::{Case, Stop, text_with, write_bytes};
 use rt_check::typed_module;
-use rt_frames::{CallPoint, Frame, Target, frame_of};
+use rt_frames::{CallPoint, Frame, Target, frame_of, saturating_frame_of};
 use rt_tree::TypedModule;
 use std::alloc::Global;
 use std::fmt::Write;
@@ -20,25 +24,37 @@ fn frame_in(alloc: Global, text: &str, name: &str, out: &mut String) -> Result<(
     if text.len() > 4194304 {
         return Err(Stop::Line);
     }
-    match typed_module(alloc, text.as_bytes()) {
+    let bytes = text.as_bytes();
+    bytes_are_small(bytes);
+    match typed_module(alloc, bytes) {
         Ok(module) => frame_named(alloc, &module, name, out),
         Err(fault) => tell(&fault, out),
     }
 }
+
+/// Bytes are below 256, as their type says.
+fn bytes_are_small(_bytes: &[u8])
+    ensures { AllByRecursion IsByte _bytes.now }
+{}
 
 fn frame_named(
     alloc: Global,
     module: &TypedModule,
     name: &str,
     out: &mut String,
-) -> Result<(), Stop> {
+) -> Result<(), Stop>
+    requires { Within «module».now }
+{
     match brick_named(module, name.as_bytes()) {
-        Some(brick) => frame_numbered(alloc, module, brick, out),
-        None => Err(Stop::Line),
+        Some(brick) if module.is_procedure(brick) => {
+            let frame = frame_of(alloc, module, brick)?;
+            show_frame(module, &frame, out)
+        }
+        _ => Err(Stop::Line),
     }
 }
 
-/// Writes the frame of the procedure of this number.
+/// Writes the frame of the procedure of this number, of a module that may be none of a text.
 pub fn frame_numbered(
     alloc: Global,
     module: &TypedModule,
@@ -48,7 +64,7 @@ pub fn frame_numbered(
     if !module.is_procedure(brick) {
         return Err(Stop::Line);
     }
-    let frame = frame_of(alloc, module, brick)?;
+    let frame = saturating_frame_of(alloc, module, brick)?;
     show_frame(module, &frame, out)
 }
 
