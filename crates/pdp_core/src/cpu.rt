@@ -63,3 +63,11 @@ pub enum Place {
     /// A word that stands in the code as an operand of the instruction: its address, and itself as it was fetched.
     InCode(u16, u16),
 }
+
+/// The same for the code, which has a register by its number: the three low bits count.
+#[derive(Clone, Copy)]
+pub enum Spot {
+    Register(u16),
+    Memory(u16),
+    Code(u16, u16),
+}

@@ -1,41 +1,37 @@
 // The instructions.
 ghost use Rattle.std.specs.Prelude.{◌≡◌, ◌+◌, ◌-◌, ◌*◌, ◌%◌, ◌<◌, ◌^◌, OnErr, ◌&&◌, nat_le, bit_or, false, if◌then◌else◌};
+ghost use Rattle.pdp_code.specs.First.{operand_of};
+ghost use Rattle.pdp_code.specs.declared.instruction.Instr.{Instr};
 ghost use Rattle.pdp_core.specs.Accesses.{store_made, update_made, double_made, single_end_made, single_read_made, single_made, word_made, register_made, push_made, pop_made, perform_made, execute_made};
+ghost use Rattle.pdp_core.specs.Spots.{place_of};
 ghost use Rattle.pdp_core.specs.Execute.{failure, limit, move as move_of, double, sum, single, single_read, single_end, on_word as on_word_of, on_register, is_odd_pair, left, holds, branch, loop, target, call, return_by, double_step, sum_step, single_step, word_step, register_step, jump_step, call_step, perform as perform_of, plan, ended, execute};
 
-use crate::cpu::{Failure, Kind, Place, Regs, Stop};
+use crate::cpu::{Failure, Kind, Regs, Spot, Stop};
+use crate::groups::carry_out;
 use crate::memory::Bus;
 use crate::operand::{
-    find, get, index, load_at, next, set, store_at, store_word, value, word_at, write_word,
+    find, get, index, load_at, next, set, set_at, store_at, store_word, value, word_at, write_word,
 };
 use crate::shift::{divide, get_pair, product, set_product, set_shifted, set_shifted_pair, shift};
 use crate::value::{
     add, change, clear_bits, differ_of, extend, limit_of, mark, set_by_difference, set_by_sum,
     set_by_value, set_flags, subtract,
 };
-use pdp_code::first::first;
-use pdp_code::{
-    Condition, DoubleOp, Instr, Operand, Reg, RegisterOp, SingleOp, Size, SumOp, WordOp,
-};
+use pdp_code::{Condition, DoubleOp, Reg, RegisterOp, SingleOp, Size, SumOp, WordOp};
 use rt_words::{wrap_add, wrap_sub};
 
-fn move_to<B: Bus>(
-    bus: &mut B,
-    regs: &mut Regs,
-    size: Size,
-    x: u16,
-    d: Place,
-) -> Result<(), Failure>
+#[inline(always)]
+fn move_to<B: Bus>(bus: &mut B, regs: &mut Regs, size: Size, x: u16, d: Spot) -> Result<(), Failure>
     requires { x < limit size }
-    ensures value { move_of (B.world bus.old) regs.old size x d ≡ left result regs.new (B.world bus.new) }
+    ensures value { move_of (B.world bus.old) regs.old size x (place_of d) ≡ left result regs.new (B.world bus.new) }
     ensures err { OnErr result (B.world bus.new ≡ B.world bus.old) }
-    ensures made { B.accesses bus.new ≡ store_made size d (B.accesses bus.old) }
+    ensures made { B.accesses bus.new ≡ store_made size (place_of d) (B.accesses bus.old) }
 {
     match size {
         Size::Word => store_word(bus, regs, d, x),
         Size::Byte => match d {
-            Place::InRegister(r) => {
-                set(regs, r, extend(x as u8));
+            Spot::Register(n) => {
+                set_at(regs, n, extend(x as u8));
                 Ok(())
             }
             _ => store_at(bus, Size::Byte, regs, d, x),
@@ -43,18 +39,19 @@ fn move_to<B: Bus>(
     }
 }
 
+#[inline(always)]
 fn two<B: Bus>(
     bus: &mut B,
     regs: &mut Regs,
     op: DoubleOp,
     size: Size,
     x: u16,
-    d: Place,
+    d: Spot,
 ) -> Result<(), Failure>
     requires { x < limit size }
-    ensures value { double (B.world bus.old) regs.old op size x d ≡ left result regs.new (B.world bus.new) }
+    ensures value { double (B.world bus.old) regs.old op size x (place_of d) ≡ left result regs.new (B.world bus.new) }
     ensures err { OnErr result (B.world bus.new ≡ B.world bus.old) }
-    ensures made { B.accesses bus.new ≡ double_made (B.world bus.old) regs.old op size d (B.accesses bus.old) }
+    ensures made { B.accesses bus.new ≡ double_made (B.world bus.old) regs.old op size (place_of d) (B.accesses bus.old) }
 {
     let c = regs.c;
     match op {
@@ -88,6 +85,7 @@ fn two<B: Bus>(
 }
 
 /// The bits of both.
+#[inline(always)]
 fn join(size: Size, y: u16, x: u16) -> u16
     requires a { y < limit size }
     requires b { x < limit size }
@@ -100,10 +98,11 @@ fn join(size: Size, y: u16, x: u16) -> u16
     }
 }
 
-fn total<B: Bus>(bus: &mut B, regs: &mut Regs, op: SumOp, x: u16, d: Place) -> Result<(), Failure>
-    ensures value { sum (B.world bus.old) regs.old op x d ≡ left result regs.new (B.world bus.new) }
+#[inline(always)]
+fn total<B: Bus>(bus: &mut B, regs: &mut Regs, op: SumOp, x: u16, d: Spot) -> Result<(), Failure>
+    ensures value { sum (B.world bus.old) regs.old op x (place_of d) ≡ left result regs.new (B.world bus.new) }
     ensures err { OnErr result (B.world bus.new ≡ B.world bus.old) }
-    ensures made { B.accesses bus.new ≡ update_made (B.world bus.old) Size.Word regs.old d (B.accesses bus.old) }
+    ensures made { B.accesses bus.new ≡ update_made (B.world bus.old) Size.Word regs.old (place_of d) (B.accesses bus.old) }
 {
     let y = load_at(bus, Size::Word, regs, d)?;
     match op {
@@ -118,18 +117,19 @@ fn total<B: Bus>(bus: &mut B, regs: &mut Regs, op: SumOp, x: u16, d: Place) -> R
     }
 }
 
+#[inline(always)]
 fn finish_one<B: Bus>(
     bus: &mut B,
     regs: &mut Regs,
     op: SingleOp,
     size: Size,
     x: u16,
-    d: Place,
+    d: Spot,
 ) -> Result<(), Failure>
     requires { x < limit size }
-    ensures value { single_end (B.world bus.old) regs.old op size x d ≡ left result regs.new (B.world bus.new) }
+    ensures value { single_end (B.world bus.old) regs.old op size x (place_of d) ≡ left result regs.new (B.world bus.new) }
     ensures err { OnErr result (B.world bus.new ≡ B.world bus.old) }
-    ensures made { B.accesses bus.new ≡ single_end_made op size d (B.accesses bus.old) }
+    ensures made { B.accesses bus.new ≡ single_end_made op size (place_of d) (B.accesses bus.old) }
 {
     match op {
         SingleOp::Tst => Ok(()),
@@ -137,42 +137,45 @@ fn finish_one<B: Bus>(
     }
 }
 
+#[inline(always)]
 fn read_one<B: Bus>(
     bus: &mut B,
     regs: &mut Regs,
     op: SingleOp,
     size: Size,
-    d: Place,
+    d: Spot,
 ) -> Result<(), Failure>
-    ensures value { single_read (B.world bus.old) regs.old op size d ≡ left result regs.new (B.world bus.new) }
+    ensures value { single_read (B.world bus.old) regs.old op size (place_of d) ≡ left result regs.new (B.world bus.new) }
     ensures err { OnErr result (B.world bus.new ≡ B.world bus.old) }
-    ensures made { B.accesses bus.new ≡ single_read_made (B.world bus.old) regs.old op size d (B.accesses bus.old) }
+    ensures made { B.accesses bus.new ≡ single_read_made (B.world bus.old) regs.old op size (place_of d) (B.accesses bus.old) }
 {
     let y = load_at(bus, size, regs, d)?;
     let x = change(regs, op, size, y);
     finish_one(bus, regs, op, size, x, d)
 }
 
-fn clear<B: Bus>(bus: &mut B, regs: &mut Regs, size: Size, d: Place) -> Result<(), Failure>
-    ensures value { single (B.world bus.old) regs.old SingleOp.Clr size d ≡ left result regs.new (B.world bus.new) }
+#[inline(always)]
+fn clear<B: Bus>(bus: &mut B, regs: &mut Regs, size: Size, d: Spot) -> Result<(), Failure>
+    ensures value { single (B.world bus.old) regs.old SingleOp.Clr size (place_of d) ≡ left result regs.new (B.world bus.new) }
     ensures err { OnErr result (B.world bus.new ≡ B.world bus.old) }
-    ensures made { B.accesses bus.new ≡ store_made size d (B.accesses bus.old) }
+    ensures made { B.accesses bus.new ≡ store_made size (place_of d) (B.accesses bus.old) }
 {
     prove!(limit_of(size) > 0);
     set_flags(regs, false, true, false, false);
     store_at(bus, size, regs, d, 0)
 }
 
+#[inline(always)]
 fn one<B: Bus>(
     bus: &mut B,
     regs: &mut Regs,
     op: SingleOp,
     size: Size,
-    d: Place,
+    d: Spot,
 ) -> Result<(), Failure>
-    ensures value { single (B.world bus.old) regs.old op size d ≡ left result regs.new (B.world bus.new) }
+    ensures value { single (B.world bus.old) regs.old op size (place_of d) ≡ left result regs.new (B.world bus.new) }
     ensures err { OnErr result (B.world bus.new ≡ B.world bus.old) }
-    ensures made { B.accesses bus.new ≡ single_made (B.world bus.old) regs.old op size d (B.accesses bus.old) }
+    ensures made { B.accesses bus.new ≡ single_made (B.world bus.old) regs.old op size (place_of d) (B.accesses bus.old) }
 {
     match op {
         SingleOp::Clr => clear(bus, regs, size, d),
@@ -180,10 +183,11 @@ fn one<B: Bus>(
     }
 }
 
-fn on_word<B: Bus>(bus: &mut B, regs: &mut Regs, op: WordOp, d: Place) -> Result<(), Failure>
-    ensures value { on_word_of (B.world bus.old) regs.old op d ≡ left result regs.new (B.world bus.new) }
+#[inline(always)]
+fn on_word<B: Bus>(bus: &mut B, regs: &mut Regs, op: WordOp, d: Spot) -> Result<(), Failure>
+    ensures value { on_word_of (B.world bus.old) regs.old op (place_of d) ≡ left result regs.new (B.world bus.new) }
     ensures err { OnErr result (B.world bus.new ≡ B.world bus.old) }
-    ensures made { B.accesses bus.new ≡ word_made (B.world bus.old) regs.old op d (B.accesses bus.old) }
+    ensures made { B.accesses bus.new ≡ word_made (B.world bus.old) regs.old op (place_of d) (B.accesses bus.old) }
 {
     match op {
         WordOp::Swab => {
@@ -201,6 +205,7 @@ fn on_word<B: Bus>(bus: &mut B, regs: &mut Regs, op: WordOp, d: Place) -> Result
     }
 }
 
+#[inline(always)]
 fn has_odd_pair(op: RegisterOp, r: Reg) -> bool
     ensures { result ≡ is_odd_pair op r }
 {
@@ -211,18 +216,19 @@ fn has_odd_pair(op: RegisterOp, r: Reg) -> bool
     }
 }
 
+#[inline(always)]
 fn with_register<B: Bus>(
     bus: &mut B,
     regs: &mut Regs,
     op: RegisterOp,
     r: Reg,
     before: u16,
-    s: Place,
+    s: Spot,
 ) -> Result<(), Failure>
     requires { is_odd_pair op r ≡ false }
-    ensures value { on_register (B.world bus.old) regs.old before op r s ≡ left result regs.new (B.world bus.new) }
+    ensures value { on_register (B.world bus.old) regs.old before op r (place_of s) ≡ left result regs.new (B.world bus.new) }
     ensures err { OnErr result (B.world bus.new ≡ B.world bus.old) }
-    ensures made { B.accesses bus.new ≡ register_made (B.world bus.old) regs.old op s (B.accesses bus.old) }
+    ensures made { B.accesses bus.new ≡ register_made (B.world bus.old) regs.old op (place_of s) (B.accesses bus.old) }
 {
     let x = load_at(bus, Size::Word, regs, s)?;
     match op {
@@ -254,6 +260,7 @@ fn with_register<B: Bus>(
     }
 }
 
+#[inline(always)]
 fn is_taken(regs: &Regs, c: Condition) -> bool
     ensures { result ≡ holds regs.now c }
 {
@@ -276,7 +283,8 @@ fn is_taken(regs: &Regs, c: Condition) -> bool
     }
 }
 
-fn take_branch(regs: &mut Regs, c: Condition, n: u8)
+#[inline(always)]
+pub fn take_branch(regs: &mut Regs, c: Condition, n: u8)
     ensures { regs.new ≡ branch regs.old (holds regs.old c) n }
 {
     if is_taken(regs, c) {
@@ -286,7 +294,8 @@ fn take_branch(regs: &mut Regs, c: Condition, n: u8)
     }
 }
 
-fn count_down(regs: &mut Regs, r: Reg, n: u8)
+#[inline(always)]
+pub fn count_down(regs: &mut Regs, r: Reg, n: u8)
     ensures { regs.new ≡ loop regs.old r n }
 {
     let x = wrap_sub(get(regs, r), 1);
@@ -297,22 +306,25 @@ fn count_down(regs: &mut Regs, r: Reg, n: u8)
     }
 }
 
-fn failed(kind: Kind, at: u16) -> Failure
+#[inline(always)]
+pub fn failed(kind: Kind, at: u16) -> Failure
     ensures { result ≡ failure kind at }
 {
     Failure { kind, at }
 }
 
-fn address_of(at: u16, place: Place) -> Result<u16, Failure>
-    ensures { result ≡ target at place }
+#[inline(always)]
+fn address_of(at: u16, place: Spot) -> Result<u16, Failure>
+    ensures { result ≡ target at (place_of place) }
 {
     match place {
-        Place::InRegister(_) => Err(failed(Kind::BadJump, at)),
-        Place::InMemory(a) => Ok(a),
-        Place::InCode(a, _) => Ok(a),
+        Spot::Register(_) => Err(failed(Kind::BadJump, at)),
+        Spot::Memory(a) => Ok(a),
+        Spot::Code(a, _) => Ok(a),
     }
 }
 
+#[inline(always)]
 fn enter<B: Bus>(bus: &mut B, regs: &mut Regs, r: Reg, a: u16) -> Result<(), Failure>
     ensures value { call (B.world bus.old) regs.old r a ≡ left result regs.new (B.world bus.new) }
     ensures err { OnErr result (B.world bus.new ≡ B.world bus.old) }
@@ -327,7 +339,8 @@ fn enter<B: Bus>(bus: &mut B, regs: &mut Regs, r: Reg, a: u16) -> Result<(), Fai
     write_word(bus, regs, s, kept)
 }
 
-fn leave<B: Bus>(bus: &mut B, regs: &mut Regs, r: Reg) -> Result<(), Failure>
+#[inline(always)]
+pub fn leave<B: Bus>(bus: &mut B, regs: &mut Regs, r: Reg) -> Result<(), Failure>
     ensures value { return_by (B.world bus.old) regs.old r ≡ left result regs.new (B.world bus.new) }
     ensures err { OnErr result (B.world bus.new ≡ B.world bus.old) }
     ensures made { B.accesses bus.new ≡ pop_made regs.old (B.accesses bus.old) }
@@ -341,7 +354,8 @@ fn leave<B: Bus>(bus: &mut B, regs: &mut Regs, r: Reg) -> Result<(), Failure>
     Ok(())
 }
 
-fn ask(at: u16, n: u8) -> Result<Stop, Failure>
+#[inline(always)]
+pub fn ask(at: u16, n: u8) -> Result<Stop, Failure>
     ensures { result ≡ (if nat_le 1 n && nat_le n 11 then Ok (Stop.Trap n) else Err (failure Kind.Reserved at)) }
 {
     if 1 <= n && n <= 11 {
@@ -352,64 +366,80 @@ fn ask(at: u16, n: u8) -> Result<Stop, Failure>
 }
 
 /// A source and a destination, of words or bytes.
-fn do_double<B: Bus>(
+#[inline(always)]
+pub fn do_double<B: Bus>(
     bus: &mut B,
     regs: &mut Regs,
     op: DoubleOp,
     size: Size,
-    s: Operand,
-    d: Operand,
+    s: u16,
+    d: u16,
 ) -> Result<Stop, Failure>
-    ensures value { double_step (B.world bus.old) regs.old op size s d ≡ ended result regs.new (B.world bus.new) }
+    ensures value { double_step (B.world bus.old) regs.old op size (operand_of s) (operand_of d) ≡ ended result regs.new (B.world bus.new) }
     ensures err { OnErr result (B.world bus.new ≡ B.world bus.old) }
-    ensures made { B.accesses bus.new ≡ perform_made 0 (B.world bus.old) regs.old (Instr.Double op size s d) (B.accesses bus.old) }
+    ensures made { B.accesses bus.new ≡ perform_made 0 (B.world bus.old) regs.old (Instr.Double op size (operand_of s) (operand_of d)) (B.accesses bus.old) }
 {
     let x = value(bus, size, regs, s)?;
+    if d / 0o10 == 0 {
+        two(bus, regs, op, size, x, Spot::Register(d))?;
+        return Ok(Stop::Went);
+    }
     let place = find(bus, size, regs, d)?;
     two(bus, regs, op, size, x, place)?;
     Ok(Stop::Went)
 }
 
 /// A source and a destination, of words alone.
-fn do_sum<B: Bus>(
+#[inline(always)]
+pub fn do_sum<B: Bus>(
     bus: &mut B,
     regs: &mut Regs,
     op: SumOp,
-    s: Operand,
-    d: Operand,
+    s: u16,
+    d: u16,
 ) -> Result<Stop, Failure>
-    ensures value { sum_step (B.world bus.old) regs.old op s d ≡ ended result regs.new (B.world bus.new) }
+    ensures value { sum_step (B.world bus.old) regs.old op (operand_of s) (operand_of d) ≡ ended result regs.new (B.world bus.new) }
     ensures err { OnErr result (B.world bus.new ≡ B.world bus.old) }
-    ensures made { B.accesses bus.new ≡ perform_made 0 (B.world bus.old) regs.old (Instr.Sum op s d) (B.accesses bus.old) }
+    ensures made { B.accesses bus.new ≡ perform_made 0 (B.world bus.old) regs.old (Instr.Sum op (operand_of s) (operand_of d)) (B.accesses bus.old) }
 {
     let x = value(bus, Size::Word, regs, s)?;
+    if d / 0o10 == 0 {
+        total(bus, regs, op, x, Spot::Register(d))?;
+        return Ok(Stop::Went);
+    }
     let place = find(bus, Size::Word, regs, d)?;
     total(bus, regs, op, x, place)?;
     Ok(Stop::Went)
 }
 
 /// One operand, of words or bytes.
-fn do_single<B: Bus>(
+#[inline(always)]
+pub fn do_single<B: Bus>(
     bus: &mut B,
     regs: &mut Regs,
     op: SingleOp,
     size: Size,
-    d: Operand,
+    d: u16,
 ) -> Result<Stop, Failure>
-    ensures value { single_step (B.world bus.old) regs.old op size d ≡ ended result regs.new (B.world bus.new) }
+    ensures value { single_step (B.world bus.old) regs.old op size (operand_of d) ≡ ended result regs.new (B.world bus.new) }
     ensures err { OnErr result (B.world bus.new ≡ B.world bus.old) }
-    ensures made { B.accesses bus.new ≡ perform_made 0 (B.world bus.old) regs.old (Instr.Single op size d) (B.accesses bus.old) }
+    ensures made { B.accesses bus.new ≡ perform_made 0 (B.world bus.old) regs.old (Instr.Single op size (operand_of d)) (B.accesses bus.old) }
 {
+    if d / 0o10 == 0 {
+        one(bus, regs, op, size, Spot::Register(d))?;
+        return Ok(Stop::Went);
+    }
     let place = find(bus, size, regs, d)?;
     one(bus, regs, op, size, place)?;
     Ok(Stop::Went)
 }
 
 /// One operand, of words alone.
-fn do_word<B: Bus>(bus: &mut B, regs: &mut Regs, op: WordOp, d: Operand) -> Result<Stop, Failure>
-    ensures value { word_step (B.world bus.old) regs.old op d ≡ ended result regs.new (B.world bus.new) }
+#[inline(always)]
+pub fn do_word<B: Bus>(bus: &mut B, regs: &mut Regs, op: WordOp, d: u16) -> Result<Stop, Failure>
+    ensures value { word_step (B.world bus.old) regs.old op (operand_of d) ≡ ended result regs.new (B.world bus.new) }
     ensures err { OnErr result (B.world bus.new ≡ B.world bus.old) }
-    ensures made { B.accesses bus.new ≡ perform_made 0 (B.world bus.old) regs.old (Instr.OnWord op d) (B.accesses bus.old) }
+    ensures made { B.accesses bus.new ≡ perform_made 0 (B.world bus.old) regs.old (Instr.OnWord op (operand_of d)) (B.accesses bus.old) }
 {
     let place = find(bus, Size::Word, regs, d)?;
     on_word(bus, regs, op, place)?;
@@ -417,17 +447,18 @@ fn do_word<B: Bus>(bus: &mut B, regs: &mut Regs, op: WordOp, d: Operand) -> Resu
 }
 
 /// A register and an operand.
-fn do_register<B: Bus>(
+#[inline(always)]
+pub fn do_register<B: Bus>(
     bus: &mut B,
     regs: &mut Regs,
     at: u16,
     op: RegisterOp,
     r: Reg,
-    s: Operand,
+    s: u16,
 ) -> Result<Stop, Failure>
-    ensures value { register_step at (B.world bus.old) regs.old op r s ≡ ended result regs.new (B.world bus.new) }
+    ensures value { register_step at (B.world bus.old) regs.old op r (operand_of s) ≡ ended result regs.new (B.world bus.new) }
     ensures err { OnErr result (B.world bus.new ≡ B.world bus.old) }
-    ensures made { B.accesses bus.new ≡ perform_made at (B.world bus.old) regs.old (Instr.OnRegister op r s) (B.accesses bus.old) }
+    ensures made { B.accesses bus.new ≡ perform_made at (B.world bus.old) regs.old (Instr.OnRegister op r (operand_of s)) (B.accesses bus.old) }
 {
     if has_odd_pair(op, r) {
         return Err(failed(Kind::Reserved, at));
@@ -439,10 +470,11 @@ fn do_register<B: Bus>(
 }
 
 /// A jump.
-fn do_jump<B: Bus>(bus: &mut B, regs: &mut Regs, at: u16, d: Operand) -> Result<Stop, Failure>
-    ensures value { jump_step at (B.world bus.old) regs.old d ≡ ended result regs.new (B.world bus.new) }
+#[inline(always)]
+pub fn do_jump<B: Bus>(bus: &mut B, regs: &mut Regs, at: u16, d: u16) -> Result<Stop, Failure>
+    ensures value { jump_step at (B.world bus.old) regs.old (operand_of d) ≡ ended result regs.new (B.world bus.new) }
     ensures err { OnErr result (B.world bus.new ≡ B.world bus.old) }
-    ensures made { B.accesses bus.new ≡ perform_made at (B.world bus.old) regs.old (Instr.Jump d) (B.accesses bus.old) }
+    ensures made { B.accesses bus.new ≡ perform_made at (B.world bus.old) regs.old (Instr.Jump (operand_of d)) (B.accesses bus.old) }
 {
     let place = find(bus, Size::Word, regs, d)?;
     let to = address_of(at, place)?;
@@ -451,16 +483,17 @@ fn do_jump<B: Bus>(bus: &mut B, regs: &mut Regs, at: u16, d: Operand) -> Result<
 }
 
 /// A call of a subroutine.
-fn do_call<B: Bus>(
+#[inline(always)]
+pub fn do_call<B: Bus>(
     bus: &mut B,
     regs: &mut Regs,
     at: u16,
     r: Reg,
-    d: Operand,
+    d: u16,
 ) -> Result<Stop, Failure>
-    ensures value { call_step at (B.world bus.old) regs.old r d ≡ ended result regs.new (B.world bus.new) }
+    ensures value { call_step at (B.world bus.old) regs.old r (operand_of d) ≡ ended result regs.new (B.world bus.new) }
     ensures err { OnErr result (B.world bus.new ≡ B.world bus.old) }
-    ensures made { B.accesses bus.new ≡ perform_made at (B.world bus.old) regs.old (Instr.Call r d) (B.accesses bus.old) }
+    ensures made { B.accesses bus.new ≡ perform_made at (B.world bus.old) regs.old (Instr.Call r (operand_of d)) (B.accesses bus.old) }
 {
     let place = find(bus, Size::Word, regs, d)?;
     let to = address_of(at, place)?;
@@ -468,55 +501,7 @@ fn do_call<B: Bus>(
     Ok(Stop::Went)
 }
 
-/// The instruction at a place, the registers past its first word.
-fn perform<B: Bus>(bus: &mut B, regs: &mut Regs, at: u16, i: Instr) -> Result<Stop, Failure>
-    ensures value { perform_of at (B.world bus.old) regs.old i ≡ ended result regs.new (B.world bus.new) }
-    ensures err { OnErr result (B.world bus.new ≡ B.world bus.old) }
-    ensures made { B.accesses bus.new ≡ perform_made at (B.world bus.old) regs.old i (B.accesses bus.old) }
-{
-    match i {
-        Instr::Double {
-            op,
-            size,
-            source: s,
-            target: d,
-        } => do_double(bus, regs, op, size, s, d),
-        Instr::Sum {
-            op,
-            source: s,
-            target: d,
-        } => do_sum(bus, regs, op, s, d),
-        Instr::Single(op, size, d) => do_single(bus, regs, op, size, d),
-        Instr::OnWord(op, d) => do_word(bus, regs, op, d),
-        Instr::OnRegister(op, r, s) => do_register(bus, regs, at, op, r, s),
-        Instr::Branch(c, n) => {
-            take_branch(regs, c, n);
-            Ok(Stop::Went)
-        }
-        Instr::Loop(r, n) => {
-            count_down(regs, r, n);
-            Ok(Stop::Went)
-        }
-        Instr::Jump(d) => do_jump(bus, regs, at, d),
-        Instr::Call(r, d) => do_call(bus, regs, at, r, d),
-        Instr::Return(r) => {
-            leave(bus, regs, r)?;
-            Ok(Stop::Went)
-        }
-        Instr::Trap(n) => ask(at, n),
-        Instr::Flags {
-            sets: u,
-            negative: n,
-            zero: z,
-            overflow: v,
-            carry: c,
-        } => {
-            mark(regs, u, n, z, v, c);
-            Ok(Stop::Went)
-        }
-    }
-}
-
+#[inline(always)]
 fn attempt<B: Bus>(bus: &mut B, regs: &mut Regs) -> Result<Stop, Failure>
     ensures value { plan (B.world bus.old) regs.old ≡ ended result regs.new (B.world bus.new) }
     ensures err { OnErr result (B.world bus.new ≡ B.world bus.old) }
@@ -524,24 +509,22 @@ fn attempt<B: Bus>(bus: &mut B, regs: &mut Regs) -> Result<Stop, Failure>
 {
     let at = get(regs, Reg::Pc);
     let w = next(bus, regs)?;
-    match first(w) {
-        Some(i) => perform(bus, regs, at, i),
-        None => Err(failed(Kind::Reserved, at)),
-    }
+    carry_out(bus, regs, at, w)
 }
 
 /// One instruction: registers, flags and memory are changed as the instruction table says, or, on a fault, not at all. It
 /// takes no memory of the host.
+#[inline(always)]
 pub fn step<B: Bus>(regs: &mut Regs, bus: &mut B) -> Stop
     ensures done { execute (B.world bus.old) regs.old ≡ record { stop = result; regs = regs.new; world = B.world bus.new } }
     ensures made { B.accesses bus.new ≡ execute_made (B.world bus.old) regs.old (B.accesses bus.old) }
 {
-    let mut after = *regs;
-    match attempt(bus, &mut after) {
-        Ok(stop) => {
-            *regs = after;
-            stop
+    let before = *regs;
+    match attempt(bus, regs) {
+        Ok(stop) => stop,
+        Err(failure) => {
+            *regs = before;
+            Stop::Fault(failure.kind, failure.at)
         }
-        Err(failure) => Stop::Fault(failure.kind, failure.at),
     }
 }

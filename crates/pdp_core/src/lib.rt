@@ -7,6 +7,7 @@
 
 pub mod cpu;
 mod execute;
+mod groups;
 pub mod laws;
 pub mod memory;
 mod operand;

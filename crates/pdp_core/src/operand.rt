@@ -1,19 +1,22 @@
 // Where operands are, and their values.
-ghost use Rattle.std.specs.Prelude.{◌≡◌, ◌<◌, OnErr, IfOk};
+ghost use Rattle.std.specs.Prelude.{◌≡◌, ◌≢◌, ◌%◌, ◌<◌, OnErr, IfOk};
 ghost use Rattle.pdp_code.specs.Code.{reg_code};
+ghost use Rattle.pdp_code.specs.First.{reg_of, pointer_of, operand_of};
 ghost use Rattle.rt_words.specs.Word.{wrap_add as sum_of, wrap_sub as difference_of};
 ghost use Rattle.pdp_core.specs.Log.{noted, FetchesWord, ReadsWord, WritesWord, WritesByte};
 ghost use Rattle.pdp_core.specs.Accesses.{next_made, address_made, load_made, operand_made, store_made};
 ghost use Rattle.pdp_core.specs.World.{word_written, byte_written};
 ghost use Rattle.pdp_core.specs.Execute.{and_then, of_refused, of_memory, goes_on, limit, reg, with_reg, pointer_reg, stride, fetch, load_word, next_word, address, load, operand, store, paired, left};
+ghost use Rattle.pdp_core.specs.Spots.{place_of, placed};
 
-use crate::cpu::{Failure, Kind, Place, Refused, Regs};
+use crate::cpu::{Failure, Kind, Refused, Regs, Spot};
 use crate::memory::Bus;
 use crate::value::set_low_byte;
-use pdp_code::{Operand, Pointer, Reg, Size};
+use pdp_code::{Reg, Size};
 use rt_words::{wrap_add, wrap_sub};
 
 /// A register's number.
+#[inline(always)]
 pub fn index(r: Reg) -> usize
     ensures value { result ≡ reg_code r }
     ensures below { result < 8 }
@@ -21,7 +24,42 @@ pub fn index(r: Reg) -> usize
     usize::from(r.number())
 }
 
+/// The number of the register of three bits.
+#[inline(always)]
+fn index_of(n: u16) -> usize
+    ensures value { result ≡ reg_code (reg_of (n % 8)) }
+    ensures below { result < 8 }
+{
+    usize::from(n % 0o10)
+}
+
+/// The number of a register other than the program counter, as it is.
+#[inline(always)]
+fn pointer(n: u16) -> u16
+    requires { n % 8 ≢ 7 }
+    ensures { reg_of (result % 8) ≡ pointer_reg (pointer_of (n % 8)) }
+{
+    n
+}
+
+/// The word of a register of three bits.
+#[inline(always)]
+pub fn get_at(regs: &Regs, n: u16) -> u16
+    ensures { result ≡ reg regs.now (reg_of (n % 8)) }
+{
+    regs.r[index_of(n)]
+}
+
+/// Gives a register of three bits another word.
+#[inline(always)]
+pub fn set_at(regs: &mut Regs, n: u16, x: u16)
+    ensures { regs.new ≡ with_reg regs.old (reg_of (n % 8)) x }
+{
+    regs.r[index_of(n)] = x;
+}
+
 /// A register's word.
+#[inline(always)]
 pub fn get(regs: &Regs, r: Reg) -> u16
     ensures { result ≡ reg regs.now r }
 {
@@ -29,35 +67,24 @@ pub fn get(regs: &Regs, r: Reg) -> u16
 }
 
 /// Gives a register another word.
+#[inline(always)]
 pub fn set(regs: &mut Regs, r: Reg, x: u16)
     ensures { regs.new ≡ with_reg regs.old r x }
 {
     regs.r[index(r)] = x;
 }
 
-fn register_of(p: Pointer) -> Reg
-    ensures { result ≡ pointer_reg p }
-{
-    match p {
-        Pointer::P0 => Reg::R0,
-        Pointer::P1 => Reg::R1,
-        Pointer::P2 => Reg::R2,
-        Pointer::P3 => Reg::R3,
-        Pointer::P4 => Reg::R4,
-        Pointer::P5 => Reg::R5,
-        Pointer::PSp => Reg::Sp,
-    }
-}
-
-fn stride_of(size: Size, r: Reg) -> u16
-    ensures { result ≡ stride size r }
+#[inline(always)]
+fn stride_of(size: Size, n: u16) -> u16
+    ensures { result ≡ stride size (reg_of (n % 8)) }
 {
     match size {
         Size::Word => 2,
-        Size::Byte => if index(r) < 6 { 1 } else { 2 },
+        Size::Byte => if index_of(n) < 6 { 1 } else { 2 },
     }
 }
 
+#[inline(always)]
 fn failed(e: Refused) -> Failure
     ensures { result ≡ of_refused e }
 {
@@ -73,6 +100,7 @@ fn failed(e: Refused) -> Failure
     }
 }
 
+#[inline(always)]
 fn fetch_at<B: Bus>(bus: &mut B, at: u16) -> Result<u16, Failure>
     ensures value { result ≡ fetch (B.world bus.old) at }
     ensures kept { B.world bus.new ≡ B.world bus.old }
@@ -85,6 +113,7 @@ fn fetch_at<B: Bus>(bus: &mut B, at: u16) -> Result<u16, Failure>
 }
 
 /// A word of the memory.
+#[inline(always)]
 pub fn word_at<B: Bus>(bus: &mut B, at: u16) -> Result<u16, Failure>
     ensures value { result ≡ load_word (B.world bus.old) at }
     ensures kept { B.world bus.new ≡ B.world bus.old }
@@ -97,6 +126,7 @@ pub fn word_at<B: Bus>(bus: &mut B, at: u16) -> Result<u16, Failure>
 }
 
 /// The next word of the instruction.
+#[inline(always)]
 pub fn next<B: Bus>(bus: &mut B, regs: &mut Regs) -> Result<u16, Failure>
     ensures value { next_word (B.world bus.old) regs.old ≡ paired result regs.new }
     ensures kept { B.world bus.new ≡ B.world bus.old }
@@ -109,102 +139,111 @@ pub fn next<B: Bus>(bus: &mut B, regs: &mut Regs) -> Result<u16, Failure>
 }
 
 /// Steps a register up, and gives what it was.
-fn step_up(regs: &mut Regs, r: Reg, by: u16) -> u16
-    ensures value { result ≡ reg regs.old r }
-    ensures stepped { regs.new ≡ with_reg regs.old r (sum_of (reg regs.old r) by) }
+#[inline(always)]
+fn step_up(regs: &mut Regs, n: u16, by: u16) -> u16
+    ensures value { result ≡ reg regs.old (reg_of (n % 8)) }
+    ensures stepped { regs.new ≡ with_reg regs.old (reg_of (n % 8)) (sum_of (reg regs.old (reg_of (n % 8))) by) }
 {
-    let at = get(regs, r);
-    set(regs, r, wrap_add(at, by));
+    let at = get_at(regs, n);
+    set_at(regs, n, wrap_add(at, by));
     at
 }
 
 /// Steps a register down, and gives what it is then.
-fn step_down(regs: &mut Regs, r: Reg, by: u16) -> u16
-    ensures value { result ≡ difference_of (reg regs.old r) by }
-    ensures stepped { regs.new ≡ with_reg regs.old r (difference_of (reg regs.old r) by) }
+#[inline(always)]
+fn step_down(regs: &mut Regs, n: u16, by: u16) -> u16
+    ensures value { result ≡ difference_of (reg regs.old (reg_of (n % 8))) by }
+    ensures stepped { regs.new ≡ with_reg regs.old (reg_of (n % 8)) (difference_of (reg regs.old (reg_of (n % 8))) by) }
 {
-    let at = wrap_sub(get(regs, r), by);
-    set(regs, r, at);
+    let at = wrap_sub(get_at(regs, n), by);
+    set_at(regs, n, at);
     at
 }
 
-/// Where an operand is.
-pub fn find<B: Bus>(bus: &mut B, size: Size, regs: &mut Regs, o: Operand) -> Result<Place, Failure>
-    ensures value { address (B.world bus.old) size regs.old o ≡ paired result regs.new }
+/// Where the operand of six bits is: three for its mode, and three for its register.
+#[inline(always)]
+pub fn find<B: Bus>(bus: &mut B, size: Size, regs: &mut Regs, n: u16) -> Result<Spot, Failure>
+    ensures value { address (B.world bus.old) size regs.old (operand_of n) ≡ placed result regs.new }
     ensures kept { B.world bus.new ≡ B.world bus.old }
-    ensures made { B.accesses bus.new ≡ address_made (B.world bus.old) regs.old o (B.accesses bus.old) }
+    ensures made { B.accesses bus.new ≡ address_made (B.world bus.old) regs.old (operand_of n) (B.accesses bus.old) }
 {
-    match o {
-        Operand::Register(r) => Ok(Place::InRegister(r)),
-        Operand::Deferred(r) => Ok(Place::InMemory(get(regs, r))),
-        Operand::Increment(p) => {
-            let r = register_of(p);
-            Ok(Place::InMemory(step_up(regs, r, stride_of(size, r))))
-        }
-        Operand::IncrementDeferred(p) => {
-            let at = step_up(regs, register_of(p), 2);
-            Ok(Place::InMemory(word_at(bus, at)?))
-        }
-        Operand::Decrement(r) => Ok(Place::InMemory(step_down(regs, r, stride_of(size, r)))),
-        Operand::DecrementDeferred(r) => {
-            let at = step_down(regs, r, 2);
-            Ok(Place::InMemory(word_at(bus, at)?))
-        }
-        Operand::Index(r, _) => {
-            let x = next(bus, regs)?;
-            Ok(Place::InMemory(wrap_add(x, get(regs, r))))
-        }
-        Operand::IndexDeferred(r, _) => {
-            let x = next(bus, regs)?;
-            Ok(Place::InMemory(word_at(bus, wrap_add(x, get(regs, r)))?))
-        }
-        Operand::Immediate(_) => {
+    match n / 0o10 {
+        0 => Ok(Spot::Register(n)),
+        1 => Ok(Spot::Memory(get_at(regs, n))),
+        2 => if n % 0o10 == 7 {
             let at = get(regs, Reg::Pc);
             let w = next(bus, regs)?;
-            Ok(Place::InCode(at, w))
+            Ok(Spot::Code(at, w))
+        } else {
+            let r = pointer(n);
+            Ok(Spot::Memory(step_up(regs, r, stride_of(size, r))))
+        },
+        3 => if n % 0o10 == 7 {
+            Ok(Spot::Memory(next(bus, regs)?))
+        } else {
+            let at = step_up(regs, pointer(n), 2);
+            Ok(Spot::Memory(word_at(bus, at)?))
+        },
+        4 => { Ok(Spot::Memory(step_down(regs, n, stride_of(size, n)))) }
+        5 => {
+            let at = step_down(regs, n, 2);
+            Ok(Spot::Memory(word_at(bus, at)?))
         }
-        Operand::Absolute(_) => Ok(Place::InMemory(next(bus, regs)?)),
+        6 => {
+            let x = next(bus, regs)?;
+            Ok(Spot::Memory(wrap_add(x, get_at(regs, n))))
+        }
+        _ => {
+            let x = next(bus, regs)?;
+            Ok(Spot::Memory(word_at(bus, wrap_add(x, get_at(regs, n)))?))
+        }
     }
 }
 
 /// The value at a place.
-pub fn load_at<B: Bus>(bus: &mut B, size: Size, regs: &Regs, place: Place) -> Result<u16, Failure>
-    ensures value { result ≡ load (B.world bus.old) size regs.now place }
+#[inline(always)]
+pub fn load_at<B: Bus>(bus: &mut B, size: Size, regs: &Regs, place: Spot) -> Result<u16, Failure>
+    ensures value { result ≡ load (B.world bus.old) size regs.now (place_of place) }
     ensures small { IfOk result (λ x. x < limit size) }
     ensures kept { B.world bus.new ≡ B.world bus.old }
-    ensures made { B.accesses bus.new ≡ load_made size place (B.accesses bus.old) }
+    ensures made { B.accesses bus.new ≡ load_made size (place_of place) (B.accesses bus.old) }
 {
     match place {
-        Place::InRegister(r) => match size {
-            Size::Word => Ok(get(regs, r)),
-            Size::Byte => Ok(get(regs, r) % 256),
+        Spot::Register(n) => match size {
+            Size::Word => Ok(get_at(regs, n)),
+            Size::Byte => Ok(get_at(regs, n) % 256),
         },
-        Place::InMemory(a) => match size {
+        Spot::Memory(a) => match size {
             Size::Word => word_at(bus, a),
             Size::Byte => match bus.read_byte(a) {
                 Ok(b) => Ok(b as u16),
                 Err(e) => Err(failed(e)),
             },
         },
-        Place::InCode(_, w) => match size {
+        Spot::Code(_, w) => match size {
             Size::Word => Ok(w),
             Size::Byte => Ok(w % 256),
         },
     }
 }
 
-/// An operand's value.
-pub fn value<B: Bus>(bus: &mut B, size: Size, regs: &mut Regs, o: Operand) -> Result<u16, Failure>
-    ensures value { operand (B.world bus.old) size regs.old o ≡ paired result regs.new }
+/// The value of the operand of six bits.
+#[inline(always)]
+pub fn value<B: Bus>(bus: &mut B, size: Size, regs: &mut Regs, n: u16) -> Result<u16, Failure>
+    ensures value { operand (B.world bus.old) size regs.old (operand_of n) ≡ paired result regs.new }
     ensures small { IfOk result (λ x. x < limit size) }
     ensures kept { B.world bus.new ≡ B.world bus.old }
-    ensures made { B.accesses bus.new ≡ operand_made (B.world bus.old) size regs.old o (B.accesses bus.old) }
+    ensures made { B.accesses bus.new ≡ operand_made (B.world bus.old) size regs.old (operand_of n) (B.accesses bus.old) }
 {
-    let place = find(bus, size, regs, o)?;
+    if n / 0o10 == 0 {
+        return load_at(bus, size, regs, Spot::Register(n));
+    }
+    let place = find(bus, size, regs, n)?;
     load_at(bus, size, regs, place)
 }
 
 /// Writes a word to the memory.
+#[inline(always)]
 pub fn write_word<B: Bus>(bus: &mut B, regs: &Regs, at: u16, x: u16) -> Result<(), Failure>
     ensures value { and_then (of_memory (word_written (B.world bus.old) at x)) (λ w. goes_on w regs.now) ≡ left result regs.now (B.world bus.new) }
     ensures err { OnErr result (B.world bus.new ≡ B.world bus.old) }
@@ -216,6 +255,7 @@ pub fn write_word<B: Bus>(bus: &mut B, regs: &Regs, at: u16, x: u16) -> Result<(
     }
 }
 
+#[inline(always)]
 fn write_byte<B: Bus>(bus: &mut B, regs: &Regs, at: u16, x: u8) -> Result<(), Failure>
     ensures value { and_then (of_memory (byte_written (B.world bus.old) at x)) (λ w. goes_on w regs.now) ≡ left result regs.now (B.world bus.new) }
     ensures err { OnErr result (B.world bus.new ≡ B.world bus.old) }
@@ -228,50 +268,53 @@ fn write_byte<B: Bus>(bus: &mut B, regs: &Regs, at: u16, x: u8) -> Result<(), Fa
 }
 
 /// Puts a word at a place.
-pub fn store_word<B: Bus>(bus: &mut B, regs: &mut Regs, place: Place, x: u16) -> Result<(), Failure>
-    ensures value { store (B.world bus.old) Size.Word regs.old place x ≡ left result regs.new (B.world bus.new) }
+#[inline(always)]
+pub fn store_word<B: Bus>(bus: &mut B, regs: &mut Regs, place: Spot, x: u16) -> Result<(), Failure>
+    ensures value { store (B.world bus.old) Size.Word regs.old (place_of place) x ≡ left result regs.new (B.world bus.new) }
     ensures err { OnErr result (B.world bus.new ≡ B.world bus.old) }
-    ensures made { B.accesses bus.new ≡ store_made Size.Word place (B.accesses bus.old) }
+    ensures made { B.accesses bus.new ≡ store_made Size.Word (place_of place) (B.accesses bus.old) }
 {
     match place {
-        Place::InRegister(r) => {
-            set(regs, r, x);
+        Spot::Register(n) => {
+            set_at(regs, n, x);
             Ok(())
         }
-        Place::InMemory(a) => write_word(bus, regs, a, x),
-        Place::InCode(a, _) => write_word(bus, regs, a, x),
+        Spot::Memory(a) => write_word(bus, regs, a, x),
+        Spot::Code(a, _) => write_word(bus, regs, a, x),
     }
 }
 
 /// Puts a byte at a place.
-pub fn store_byte<B: Bus>(bus: &mut B, regs: &mut Regs, place: Place, x: u8) -> Result<(), Failure>
-    ensures value { store (B.world bus.old) Size.Byte regs.old place x ≡ left result regs.new (B.world bus.new) }
+#[inline(always)]
+pub fn store_byte<B: Bus>(bus: &mut B, regs: &mut Regs, place: Spot, x: u8) -> Result<(), Failure>
+    ensures value { store (B.world bus.old) Size.Byte regs.old (place_of place) x ≡ left result regs.new (B.world bus.new) }
     ensures err { OnErr result (B.world bus.new ≡ B.world bus.old) }
-    ensures made { B.accesses bus.new ≡ store_made Size.Byte place (B.accesses bus.old) }
+    ensures made { B.accesses bus.new ≡ store_made Size.Byte (place_of place) (B.accesses bus.old) }
 {
     match place {
-        Place::InRegister(r) => {
-            let whole = set_low_byte(get(regs, r), x);
-            set(regs, r, whole);
+        Spot::Register(n) => {
+            let whole = set_low_byte(get_at(regs, n), x);
+            set_at(regs, n, whole);
             Ok(())
         }
-        Place::InMemory(a) => write_byte(bus, regs, a, x),
-        Place::InCode(a, _) => write_byte(bus, regs, a, x),
+        Spot::Memory(a) => write_byte(bus, regs, a, x),
+        Spot::Code(a, _) => write_byte(bus, regs, a, x),
     }
 }
 
 /// Puts a word or a byte at a place.
+#[inline(always)]
 pub fn store_at<B: Bus>(
     bus: &mut B,
     size: Size,
     regs: &mut Regs,
-    place: Place,
+    place: Spot,
     x: u16,
 ) -> Result<(), Failure>
     requires { x < limit size }
-    ensures value { store (B.world bus.old) size regs.old place x ≡ left result regs.new (B.world bus.new) }
+    ensures value { store (B.world bus.old) size regs.old (place_of place) x ≡ left result regs.new (B.world bus.new) }
     ensures err { OnErr result (B.world bus.new ≡ B.world bus.old) }
-    ensures made { B.accesses bus.new ≡ store_made size place (B.accesses bus.old) }
+    ensures made { B.accesses bus.new ≡ store_made size (place_of place) (B.accesses bus.old) }
 {
     match size {
         Size::Word => store_word(bus, regs, place, x),

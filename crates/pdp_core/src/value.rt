@@ -7,6 +7,7 @@ use crate::cpu::Regs;
 use pdp_code::{SingleOp, Size};
 
 /// Whether two tests differ.
+#[inline(always)]
 pub fn differ_of(a: bool, b: bool) -> bool
     ensures { result ≡ differ a b }
 {
@@ -14,6 +15,7 @@ pub fn differ_of(a: bool, b: bool) -> bool
 }
 
 /// A byte as a word of the same sign.
+#[inline(always)]
 pub fn extend(b: u8) -> u16
     ensures { result ≡ extend_sign b }
 {
@@ -21,6 +23,7 @@ pub fn extend(b: u8) -> u16
 }
 
 /// A word with another low byte.
+#[inline(always)]
 pub fn set_low_byte(w: u16, b: u8) -> u16
     ensures { result ≡ with_low_byte w b }
 {
@@ -28,6 +31,7 @@ pub fn set_low_byte(w: u16, b: u8) -> u16
 }
 
 /// How many values there are.
+#[inline(always)]
 pub fn limit_of(size: Size) -> u32
     ensures value { result ≡ limit size }
     ensures most { result ≤ 65536 }
@@ -40,6 +44,7 @@ pub fn limit_of(size: Size) -> u32
 }
 
 /// Half of them.
+#[inline(always)]
 pub fn half_of(size: Size) -> u16
     ensures value { result ≡ half size }
     ensures most { result ≤ 32768 }
@@ -53,6 +58,7 @@ pub fn half_of(size: Size) -> u16
 }
 
 /// Whether the top bit is set.
+#[inline(always)]
 pub fn is_negative(size: Size, x: u16) -> bool
     ensures { result ≡ negative size x }
 {
@@ -60,6 +66,7 @@ pub fn is_negative(size: Size, x: u16) -> bool
 }
 
 /// A sum without its carry.
+#[inline(always)]
 pub fn add(size: Size, a: u16, b: u16) -> u16
     ensures value { result ≡ plus size a b }
     ensures below { result < limit size }
@@ -68,6 +75,7 @@ pub fn add(size: Size, a: u16, b: u16) -> u16
 }
 
 /// A difference without its borrow.
+#[inline(always)]
 pub fn subtract(size: Size, a: u16, b: u16) -> u16
     requires { b < limit size }
     ensures value { result ≡ minus size a b }
@@ -77,6 +85,7 @@ pub fn subtract(size: Size, a: u16, b: u16) -> u16
 }
 
 /// The bits of one that are not in the other.
+#[inline(always)]
 pub fn clear_bits(y: u16, x: u16) -> u16
     ensures value { result ≡ y - bit_and y x }
     ensures less { result ≤ y }
@@ -85,6 +94,7 @@ pub fn clear_bits(y: u16, x: u16) -> u16
 }
 
 /// Sets the four flags.
+#[inline(always)]
 pub fn set_flags(regs: &mut Regs, n: bool, z: bool, v: bool, c: bool)
     ensures { regs.new ≡ flags regs.old n z v c }
 {
@@ -95,6 +105,7 @@ pub fn set_flags(regs: &mut Regs, n: bool, z: bool, v: bool, c: bool)
 }
 
 /// N and Z by a result.
+#[inline(always)]
 pub fn set_by_value(regs: &mut Regs, size: Size, x: u16, v: bool, c: bool)
     ensures { regs.new ≡ by_value regs.old size x v c }
 {
@@ -102,6 +113,7 @@ pub fn set_by_value(regs: &mut Regs, size: Size, x: u16, v: bool, c: bool)
 }
 
 /// The flags of `a - b`.
+#[inline(always)]
 pub fn set_by_difference(regs: &mut Regs, size: Size, a: u16, b: u16)
     requires { b < limit size }
     ensures { regs.new ≡ by_difference regs.old size a b }
@@ -113,6 +125,7 @@ pub fn set_by_difference(regs: &mut Regs, size: Size, a: u16, b: u16)
 }
 
 /// The flags of `a + b`.
+#[inline(always)]
 pub fn set_by_sum(regs: &mut Regs, a: u16, b: u16)
     ensures { regs.new ≡ by_sum regs.old a b }
 {
@@ -129,6 +142,7 @@ pub fn set_by_sum(regs: &mut Regs, a: u16, b: u16)
 }
 
 /// Sets or clears flags.
+#[inline(always)]
 pub fn mark(regs: &mut Regs, u: bool, n: bool, z: bool, v: bool, c: bool)
     ensures { regs.new ≡ marked regs.old u n z v c }
 {
@@ -139,6 +153,7 @@ pub fn mark(regs: &mut Regs, u: bool, n: bool, z: bool, v: bool, c: bool)
     set_flags(regs, new_n, new_z, new_v, new_c);
 }
 
+#[inline(always)]
 fn one_where(b: bool) -> u16
     ensures value { result ≡ one_if b }
     ensures few { result ≤ 1 }
@@ -146,6 +161,7 @@ fn one_where(b: bool) -> u16
     if b { 1 } else { 0 }
 }
 
+#[inline(always)]
 fn half_where(size: Size, b: bool) -> u16
     ensures value { result ≡ half_if size b }
     ensures most { result + result ≤ limit size }
@@ -153,6 +169,7 @@ fn half_where(size: Size, b: bool) -> u16
     if b { half_of(size) } else { 0 }
 }
 
+#[inline(always)]
 fn right(size: Size, y: u16, top: bool) -> u16
     requires { y < limit size }
     ensures value { result ≡ y / 2 + half_if size top }
@@ -162,6 +179,7 @@ fn right(size: Size, y: u16, top: bool) -> u16
     y / 2 + half_where(size, top)
 }
 
+#[inline(always)]
 fn left(size: Size, y: u16, low: bool) -> u16
     ensures value { result ≡ (2 * y + one_if low) % limit size }
     ensures below { result < limit size }
@@ -169,6 +187,7 @@ fn left(size: Size, y: u16, low: bool) -> u16
     ((2 * y as u32 + one_where(low) as u32) % limit_of(size)) as u16
 }
 
+#[inline(always)]
 fn twice(size: Size, y: u16) -> u16
     ensures value { result ≡ (2 * y) % limit size }
     ensures below { result < limit size }
@@ -176,6 +195,7 @@ fn twice(size: Size, y: u16) -> u16
     ((2 * y as u32) % limit_of(size)) as u16
 }
 
+#[inline(always)]
 fn complement(size: Size, y: u16) -> u16
     requires { y < limit size }
     ensures value { result ≡ limit size - 1 - y }
@@ -185,6 +205,7 @@ fn complement(size: Size, y: u16) -> u16
 }
 
 /// What an operation makes of `y`, with C before it.
+#[inline(always)]
 pub fn changed(op: SingleOp, size: Size, c: bool, y: u16) -> u16
     requires { y < limit size }
     ensures value { result ≡ single_value op size c y }
@@ -208,6 +229,7 @@ pub fn changed(op: SingleOp, size: Size, c: bool, y: u16) -> u16
 }
 
 /// C after it.
+#[inline(always)]
 pub fn carry_of(op: SingleOp, size: Size, c: bool, y: u16, x: u16) -> bool
     ensures { result ≡ single_carry op size c y x }
 {
@@ -228,6 +250,7 @@ pub fn carry_of(op: SingleOp, size: Size, c: bool, y: u16, x: u16) -> bool
 }
 
 /// V after it.
+#[inline(always)]
 pub fn overflow_of(op: SingleOp, size: Size, c: bool, y: u16, x: u16) -> bool
     ensures { result ≡ single_overflow op size c y x }
 {
@@ -248,6 +271,7 @@ pub fn overflow_of(op: SingleOp, size: Size, c: bool, y: u16, x: u16) -> bool
 }
 
 /// Sets the flags of an operation on `y`, and gives what it makes of it.
+#[inline(always)]
 pub fn change(regs: &mut Regs, op: SingleOp, size: Size, y: u16) -> u16
     requires { y < limit size }
     ensures value { result ≡ single_value op size regs.old.c y }
