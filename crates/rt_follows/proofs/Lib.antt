@@ -1,0 +1,5 @@
+pub mod Step
+pub mod Induction
+pub mod Starting
+pub mod Calls
+pub mod Parameters
