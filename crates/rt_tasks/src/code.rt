@@ -9,6 +9,7 @@ use pdp_code::laws::first_words;
 const TRAPS: u16 = 0o211;
 
 /// The mark of the code word at an address, by the marks of all words.
+#[inline(always)]
 pub fn mark_at(marks: &[u8], at: u16) -> u8
     ensures { result ≡ mark_of marks.now at }
 {
@@ -22,6 +23,7 @@ pub fn mark_at(marks: &[u8], at: u16) -> u8
 }
 
 // The number of the TRAP that a word is.
+#[inline(always)]
 fn number_of(word: u16) -> Option<u8>
     ensures { result ≡ trap_number (first_of word) }
 {
@@ -34,6 +36,7 @@ fn number_of(word: u16) -> Option<u8>
 }
 
 /// The number of the TRAP whose word stands at an address.
+#[inline(always)]
 pub fn trap(code: &[u16], at: u16) -> Option<u8>
     ensures { result ≡ trap_at code.now at }
 {

@@ -38,6 +38,7 @@ pub enum Found {
 }
 
 // The word of two bytes, the low one first.
+#[inline(always)]
 fn word(bytes: &[u8], at: usize) -> u16
     requires { at + 1 < length bytes.now }
     ensures { result ≡ word_at (λ k. slice_index bytes.now k) at }
@@ -48,6 +49,7 @@ fn word(bytes: &[u8], at: usize) -> u16
 }
 
 // Puts a word as two bytes, the low one first.
+#[inline(always)]
 fn put_word(bytes: &mut Vec<u8>, at: usize, word: u16)
     requires { at + 1 < vec_len bytes.old }
     ensures { bytes.new.items ≡ slice_set (slice_set bytes.old.items at (word % 256)) (at + 1) (word / 256) }
@@ -85,6 +87,7 @@ impl TaskMemory {
     }
 
     // Where the byte at an address stands, if the task may use it.
+    #[inline(always)]
     fn find(&self, at: u16) -> Found
         ensures { IsFound self.now.bytes.items self.now.own.bytes.items self.now.places at result }
     {
@@ -140,6 +143,7 @@ impl Bus for TaskMemory {
 
     ghost accesses = { λ _. None };
 
+    #[inline(always)]
     fn fetch(&mut self, at: u16) -> Result<u16, Refused> {
         if at % 2 == 1 {
             return Err(Refused::Odd(at));
@@ -152,6 +156,7 @@ impl Bus for TaskMemory {
         }
     }
 
+    #[inline(always)]
     fn read_word(&mut self, at: u16) -> Result<u16, Refused> {
         if at % 2 == 1 {
             return Err(Refused::Odd(at));
@@ -163,6 +168,7 @@ impl Bus for TaskMemory {
         }
     }
 
+    #[inline(always)]
     fn read_byte(&mut self, at: u16) -> Result<u8, Refused> {
         match self.find(at) {
             Found::InData(place) => Ok(self.bytes[place]),
@@ -171,6 +177,7 @@ impl Bus for TaskMemory {
         }
     }
 
+    #[inline(always)]
     fn write_word(&mut self, at: u16, w: u16) -> Result<(), Refused> {
         if at % 2 == 1 {
             return Err(Refused::Odd(at));
@@ -183,6 +190,7 @@ impl Bus for TaskMemory {
         Ok(())
     }
 
+    #[inline(always)]
     fn write_byte(&mut self, at: u16, b: u8) -> Result<(), Refused> {
         match self.find(at) {
             Found::InData(place) => self.bytes[place] = b,

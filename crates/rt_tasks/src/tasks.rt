@@ -101,6 +101,7 @@ pub struct Running<'a> {
 
 impl Running<'_> {
     /// One instruction. A fault leaves all as it was.
+    #[inline(always)]
     pub fn step(&mut self) -> Stop
         ensures done { Steps self.old.regs self.old.shared.now result self.new.regs self.new.shared.now }
         ensures fault { KeepsAtFault self.old.regs self.old.shared.now result self.new.regs self.new.shared.now }
@@ -113,6 +114,7 @@ impl Running<'_> {
     }
 
     /// The mark of the code word at the program counter; 0 where it is odd or outside the code.
+    #[inline(always)]
     pub fn mark(&self) -> u8
         ensures { result ≡ mark_of self.now.shared.now.marks (reg self.now.regs Pc) }
     {
@@ -121,6 +123,7 @@ impl Running<'_> {
     }
 
     /// The number of the TRAP that stands at the program counter, whichever it is; None where none does.
+    #[inline(always)]
     pub fn next_trap(&self) -> Option<u8>
         ensures { result ≡ trap_at self.now.shared.now.code (reg self.now.regs Pc) }
     {
