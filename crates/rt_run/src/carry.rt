@@ -60,6 +60,7 @@ fn call(running: &mut Running, supervisor: &mut Supervisor, task: u8, number: u8
 }
 
 // The console's next byte, for TRAP 1.
+#[inline(never)]
 fn read<I: Source>(input: &mut I) -> Result<Granted, Carried>
     ensures read { IsRead result (feed (I.left input.old) (I.ended input.old)) (feed (I.left input.new) (I.ended input.new)) }
     ensures failed { IsErr result → Rose (I.faults input.old) (I.faults input.new) }
@@ -73,6 +74,7 @@ fn read<I: Source>(input: &mut I) -> Result<Granted, Carried>
 }
 
 // A byte put on the console, for TRAP 2.
+#[inline(never)]
 fn write<O: Sink>(running: &Running, output: &mut O) -> Result<Granted, Carried>
     ensures written { IsWritten result (O.written output.old) (reg running.now.regs R0 % 256) (O.written output.new) }
     ensures failed { IsErr result → Rose (O.faults output.old) (O.faults output.new) }
@@ -85,6 +87,7 @@ fn write<O: Sink>(running: &Running, output: &mut O) -> Result<Granted, Carried>
 }
 
 // Asks the console for what the next instruction wants of it. Where that fails, nothing is done.
+#[inline(always)]
 fn ask<I: Source, O: Sink>(
     running: &Running,
     input: &mut I,
@@ -104,6 +107,7 @@ fn ask<I: Source, O: Sink>(
 }
 
 // The service of a TRAP, for which the console granted this.
+#[inline(never)]
 fn serve(
     running: &mut Running,
     supervisor: &mut Supervisor,
@@ -133,6 +137,7 @@ fn serve(
 }
 
 // One instruction, for which the console granted this.
+#[inline(always)]
 fn advance(
     running: &mut Running,
     supervisor: &mut Supervisor,
@@ -154,6 +159,7 @@ fn advance(
 }
 
 /// One instruction of the running task, with its service. It takes no memory.
+#[inline(always)]
 pub fn carry_out<I: Source, O: Sink>(
     running: &mut Running,
     supervisor: &mut Supervisor,

@@ -21,6 +21,7 @@ pub struct Stretch {
 }
 
 /// Whether an instruction was carried out.
+#[inline(always)]
 pub fn is_done(carried: Carried) -> bool
     ensures { result ≡ counts carried }
 {
@@ -28,6 +29,7 @@ pub fn is_done(carried: Carried) -> bool
 }
 
 // Whether the task goes on after so many instructions of at most so many, of which the last one ended so.
+#[inline(always)]
 fn may_go_on(carried: Carried, count: u64, most: u64) -> bool
     ensures { result ≡ goes_on carried count most }
 {
