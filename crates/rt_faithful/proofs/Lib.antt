@@ -1,0 +1,10 @@
+mod Owning
+mod Serving
+mod Coming
+mod Longer
+mod Came
+mod Begun
+mod Joined
+mod Joining
+mod Linking
+mod Ending

@@ -1,0 +1,104 @@
+-- A source run with one more tick, and one with one more step.
+use Rattle.std.proofs.Common.{◌≡◌, ℕ, zero, suc, ◌+◌, ◌<◌, ◌≤◌, ◌==◌, Bool, true, false, ◌&&◌, nat_le, if◌then◌else◌, List, [], ◌∷◌, ◌++◌, Option, Some, None, refl, ap, arith, eqb-true, leb-true, eq-eqb}
+use Rattle.std.proofs.lemmas.Bool.{le-leb}
+use Rattle.rt_resolve.specs.World.{World}
+use Rattle.rt_meaning.specs.Run.{State}
+use Rattle.rt_runs.specs.Runs.{Reached, ticks_after, then_step, then_ticks, after, rise_from, are_placements}
+
+-- ---- one more tick
+
+abbrev one_if : Bool → ℕ
+one_if true = 1
+one_if false = 0
+
+if_one : (b : Bool) (n : ℕ) → (if b then suc n else n) ≡ one_if b + n
+if_one true n = omega arith
+if_one false n = omega arith
+
+after_cons : (p : ℕ) (ps : List ℕ) (s : ℕ) → ticks_after (p ∷ ps) s ≡ one_if (p == s) + ticks_after ps s
+after_cons p ps s = if_one (p == s) (ticks_after ps s)
+
+no_hit : (b : Bool) → (b ≡ true → ⊥) → one_if b ≡ 0
+no_hit true f = absurd (f refl)
+no_hit false f = refl
+
+-- how many ticks fall after s steps, where one more placement stands behind the others
+with_last : (ps : List ℕ) (n s : ℕ) → ticks_after (ps ++ n ∷ []) s ≡ one_if (n == s) + ticks_after ps s
+with_last [] n s = after_cons n [] s
+with_last (p ∷ ps) n s = omega (arith, after_cons p (ps ++ n ∷ []) s, after_cons p ps s, with_last ps n s)
+
+as_many : (ps : List ℕ) (n s : ℕ) → s < n → ticks_after (ps ++ n ∷ []) s ≡ ticks_after ps s
+as_many ps n s h =
+    let none = no_hit (n == s) (λ e. let same = eqb-true n s e in omega arith) in omega (arith, with_last ps n s, none)
+
+one_at : (n : ℕ) → one_if (n == n) ≡ 1
+one_at n = ap one_if (eq-eqb n n refl)
+
+one_more : (ps : List ℕ) (n : ℕ) → ticks_after (ps ++ n ∷ []) n ≡ suc (ticks_after ps n)
+one_more ps n = omega (arith, with_last ps n n, one_at n)
+
+-- up to the step before the tick the run is the same
+as_before : (w : World) (s : State) (ps input : List ℕ) (n k : ℕ) → k < n → after w s (ps ++ n ∷ []) input k ≡ after w s ps input k
+as_before w s ps input n zero h = rw (as_many ps n 0 h) refl
+as_before w s ps input n (suc k) h = rw (as_many ps n (suc k) h, as_before w s ps input n k (omega arith)) refl
+
+last_tick : (t : ℕ) (r : Option Reached) → then_ticks (suc t) r ≡ then_ticks 1 (then_ticks t r)
+last_tick t None = refl
+last_tick t (Some r) = refl
+
+-- a tick behind all others, after the last step, is one tick of what the run came to
+pub one_more_tick : (w : World) (s : State) (ps input : List ℕ) (n : ℕ) → after w s (ps ++ n ∷ []) input n ≡ then_ticks 1 (after w s ps input n)
+one_more_tick w s ps input zero = rw (one_more ps 0) refl
+one_more_tick w s ps input (suc k) =
+    rw (one_more ps (suc k), as_before w s ps input (suc k) k (omega arith)) (last_tick (ticks_after ps (suc k)) _)
+
+-- ---- one more step
+
+both_true : (a b : Bool) → a && b ≡ true → (a ≡ true) × (b ≡ true)
+both_true true b e = (refl, e)
+both_true false b e = absurd cc
+
+-- no placement of a run of n steps falls after one step more
+none_behind : (ps : List ℕ) (least n : ℕ) → rise_from least n ps ≡ true → ticks_after ps (suc n) ≡ 0
+none_behind [] least n e = refl
+none_behind (p ∷ ps) least n e =
+    let inner = both_true (nat_le p n) (rise_from p n ps) (both_true (nat_le least p) (nat_le p n && rise_from p n ps) e).1 in
+    let low = leb-true p n inner.0 in
+    let none = no_hit (p == suc n) (λ q. let same = eqb-true p (suc n) q in omega arith) in
+    omega (arith, after_cons p ps (suc n), none, none_behind ps p n inner.1)
+
+no_tick : (r : Option Reached) → then_ticks 0 r ≡ r
+no_tick None = refl
+no_tick (Some r) = refl
+
+-- where no tick falls after it, one more step is one step of what the run came to
+pub one_more_step : (w : World) (s : State) (ps input : List ℕ) (n : ℕ) → are_placements ps n ≡ true → after w s ps input (suc n) ≡ then_step w input (after w s ps input n)
+one_more_step w s ps input n e = rw (none_behind ps 0 n e) (no_tick _)
+
+-- ---- placements
+
+and_true : (a b : Bool) → a ≡ true → b ≡ true → a && b ≡ true
+and_true true b e f = f
+and_true false b e f = absurd cc
+
+rise_more : (ps : List ℕ) (least n m : ℕ) → n ≤ m → rise_from least n ps ≡ true → rise_from least m ps ≡ true
+rise_more [] least n m h e = refl
+rise_more (p ∷ ps) least n m h e =
+    let x = both_true (nat_le least p) (nat_le p n && rise_from p n ps) e in
+    let y = both_true (nat_le p n) (rise_from p n ps) x.1 in
+    let z = leb-true p n y.0 in
+    and_true (nat_le least p) (nat_le p m && rise_from p m ps) x.0 (and_true (nat_le p m) (rise_from p m ps) (le-leb p m (omega (arith, z, h))) (rise_more ps p n m h y.1))
+
+-- placements in a run are placements in a longer one
+pub placed_more : (ps : List ℕ) (n m : ℕ) → n ≤ m → are_placements ps n ≡ true → are_placements ps m ≡ true
+placed_more ps n m h e = rise_more ps 0 n m h e
+
+rise_by : (ps : List ℕ) (least n p : ℕ) (a b : Bool) → nat_le least p ≡ a → nat_le p n ≡ b → (p ≤ n → rise_from p n ps ≡ true → rise_from p n (ps ++ n ∷ []) ≡ true) → (a && (b && rise_from p n ps)) ≡ true → (nat_le least p && (nat_le p n && rise_from p n (ps ++ n ∷ []))) ≡ true
+rise_by ps least n p true true f g more h = rw (f, g) (more (leb-true p n g) h)
+rise_by ps least n p true false f g more h = absurd cc
+rise_by ps least n p false b f g more h = absurd cc
+
+-- and one more after the last step is one
+pub rise_last : (ps : List ℕ) (least n : ℕ) → least ≤ n → rise_from least n ps ≡ true → rise_from least n (ps ++ n ∷ []) ≡ true
+rise_last [] least n low e = rw (le-leb least n low, le-leb n n (omega arith)) refl
+rise_last (p ∷ ps) least n low e = rise_by ps least n p (nat_le least p) (nat_le p n) refl refl (rise_last ps p n) e

@@ -1,0 +1,4 @@
+pub mod Faithful
+pub mod Imaged
+pub mod Services
+pub mod Laws
