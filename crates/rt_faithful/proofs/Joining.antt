@@ -93,11 +93,9 @@ one_less i j a b ne e = ne (omega (arith, a, b, e))
 -- ---- another memory with the same brick and block
 
 own_kept : (w : Whole) (h : Home) (m m' : ℕ → ℕ) (t : Task) → ((a : ℕ) → h.block ≤ a → a < h.block + 16 → m' a ≡ m a) → OwnIs w h t m → OwnIs w h t m'
-own_kept w h m m' (Doing a cs own) block s =
+own_kept w h m m' t block s =
     let eight = s.eight in
     record { words = s.words; at = stack_agrees m m' h.block s.words (λ x p q. block x p (omega (arith, q, eight))) s.at; eight = s.eight; lies = s.lies }
-own_kept w h m m' (Ended own) block s = tt
-own_kept w h m m' (Failed n own) block s = tt
 
 stays_kept : (w : Whole) (h : Home) (q : ℕ) (g : Regs) (m m' : ℕ → ℕ) (t : Task) → ((a : ℕ) → h.block ≤ a → a < h.block + 16 → m' a ≡ m a) → Stays w h q g m t → Stays w h q g m' t
 stays_kept w h q g m m' t block s = record { above = s.above; below = s.below; own = own_kept w h m m' t block s.own; quiet = s.quiet }

@@ -30,7 +30,7 @@ quiet i (e ∷ es) = if e.task == i then quiet_after e.mark (quiet i es) else qu
 -- The source's run is there, for as many visible steps as the machine's run has made, and with each tick after as many steps as the
 -- machine's run had made when it took it. It has the same output, the same bytes taken of the input and the same rules, and so the same
 -- condition of each task; a task of it has ended just where the rules say so. What all tasks share lies as its store says, and the block
--- of each task that goes on as the task's own data say.
+-- of each task, also of one that has ended, as the task's own data say.
 pub record Same (w : Whole) (image : ImageParts) (ts : List SourceTask) (input : List ℕ) (s : State) : Type 0 where
   pub reached : source.Reached
   pub run : system_run w.ps ts s.placements input (steps s) ≡ Some reached

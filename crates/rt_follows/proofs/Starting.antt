@@ -92,7 +92,7 @@ module _ (w : Whole) (lays : Lays w) (h : Home) (sits : Sits w h) (u : Machine) 
         let f = plan_sound (layout w h) (laid w h lays sits) m0 (Service 11) u (omega arith) is0.task code refl in
         let does : execute (memory w h m0) (regs u) ≡ outcome m0 = ap (settle (memory w h m0) (regs u)) f.0 in
         let over_now : o ≡ came.Ends = end_comes o (subst (λ (y : Outcome). MayCome (asked_of y) o) does may) in
-        let rest : Stays w h 0 (regs u2) m0 (Over own) = record { above = is0.task.low; below = omega (arith, is0.task.full); own = tt; quiet = omega arith } in
+        let rest : Stays w h 0 (regs u2) m0 (Over own) = record { above = is0.task.low; below = omega (arith, is0.task.full); own = (stays w h q u a [] own m0 few is0).own; quiet = omega arith } in
         subst (λ i. Comes w h k q (Doing a [] own) S o i (execute (memory w h m0) (regs u))) (sym mark)
         (subst (λ y. Comes w h k q (Doing a [] own) S o 1 y) (sym does)
         (subst (λ (z : rules.Outcome). Comes w h k q (Doing a [] own) S z 1 (outcome m0)) (sym over_now) (ended k q S m0 lies rest))),

@@ -18,7 +18,7 @@ use Rattle.rt_work_state.specs.declared.request.Request.TheVariants.{Nothing}
 use Rattle.rt_work_state.specs.Stores.{Store}
 use Rattle.rt_work.specs.Task.{service}
 use Rattle.rt_meaning.specs.Answers.{MayCome}
-use Rattle.rt_meaning.specs.Step.{Task, Over, Failed, Doing}
+use Rattle.rt_meaning.specs.Step.{Task, own_of}
 use Rattle.rt_meaning_laws.specs.Tasks.{TaskFits, TypedStore}
 use Rattle.rt_meaning_laws.specs.Makes.{HasntEnded, Makes}
 use Rattle.pdp_symbolic.specs.Machine.{WordsAt}
@@ -67,10 +67,9 @@ pub record OwnStands (w : Whole) (h : Home) (own : List Datum) (m : ℕ → ℕ)
   pub eight : length words ≡ 8
   pub lies : OwnLies w own words
 
+-- so it does of a task, also of one that has ended
 abbrev pub OwnIs : Whole → Home → Task → (ℕ → ℕ) → Type 0
-OwnIs w h (Doing a callers own) m = OwnStands w h own m
-OwnIs w h (Over own) m = Unit {0}
-OwnIs w h (Failed n own) m = Unit {0}
+OwnIs w h t m = OwnStands w h (own_of t) m
 
 -- the stack pointer lies in the brick, the block has the task's own data, and not too many unmarked instructions came in a row
 pub record Stays (w : Whole) (h : Home) (q : ℕ) (g : Regs) (m : ℕ → ℕ) (t : Task) : Type 0 where
