@@ -12,7 +12,8 @@ use Rattle.rt_meaning.specs.Run.{State, Served, Stepped, serve, moved, moved_by,
 use Rattle.rt_meaning.specs.Step.{Task, request, task_step}
 use Rattle.rt_meaning_laws.specs.Makes.{HasntEnded, Makes}
 use Rattle.rt_runs.specs.Runs.{Reached, bytes_of, reached_by, then_step, after, are_placements}
-use Rattle.rt_faithful.proofs.Longer.{one_more_step, placed_more}
+use Rattle.rt_runs.proofs.Longer.{one_more_step}
+use Rattle.rt_faithful.proofs.Placed.{placed_more}
 
 -- ---- lists
 

@@ -35,7 +35,7 @@ use Rattle.rt_meaning.specs.Step.{Task, Over as Ended, Failed, Doing}
 use Rattle.rt_meaning.specs.Whole.{beginning}
 use Rattle.rt_meaning_laws.specs.Ends.{EndsAs, EndAsRows, Agree}
 use Rattle.rt_meaning_laws.specs.Makes.{HasntEnded, Makes}
-use Rattle.rt_meaning_laws.specs.Runs.{AllFit, NoneLacks, StateFits, IsInput}
+use Rattle.rt_meaning_laws.specs.Runs.{AllFit, NoneLacks, StateFits}
 use Rattle.rt_meaning_laws.specs.SourceRuns.{AreBytes}
 use Rattle.rt_meaning_laws.specs.Tasks.{TaskFits}
 use Rattle.rt_runs.specs.Runs as runs
@@ -47,16 +47,13 @@ use Rattle.rt_faithful.specs.Faithful.{home_of, quiet}
 use Rattle.rt_faithful.specs.Imaged.{Imaged}
 use Rattle.rt_faithful.specs.Services.{SameService}
 use Rattle.rt_faithful.proofs.Joined.{Joined, Given}
-use Rattle.rt_faithful.proofs.Longer.{one_more_tick, placed_more, rise_last}
+use Rattle.rt_runs.proofs.Longer.{one_more_tick}
+use Rattle.rt_meaning_laws.proofs.SourceRuns.{byte_comes}
+use Rattle.rt_faithful.proofs.Placed.{placed_more, rise_last}
 use Rattle.rt_faithful.proofs.Came.{get_set, found_by, Came, comes}
 use Rattle.rt_faithful.proofs.Begun.{get_less}
 
 -- ---- small facts
-
-input_is : (input : List ℕ) → AreBytes input → (k : ℕ) → IsInput (slice_get input k)
-input_is [] h k = tt
-input_is (b ∷ bs) h zero = h.0
-input_is (b ∷ bs) h (suc k) = input_is bs h.1 k
 
 get_other : {A : Type 0} (xs : List A) (k l : ℕ) (x : A) → (k ≡ l → ⊥) → slice_get (slice_set xs k x) l ≡ slice_get xs l
 get_other [] k l x ne = refl
@@ -235,7 +232,7 @@ module _ (given : Given) (w : Whole) (image : ImageParts) (ts : List SourceTask)
     makes k =
         (j.follows i g one had (suc k)).1 alive (fits_at w.ps (meaning w) r.state.tasks (i - 1) (task_at r.state.tasks i) state_fits.tasks found) r.state.store s.memory state_fits.typed
         (record { brick = λ a y z. refl; block = λ a y z. refl; code = j.code }) j.shared vr.outcome
-        (given.may_come r.state.rules r.state.taken i (slice_get input r.state.taken) A state_fits.rules runs_r (input_is input typed r.state.taken))
+        (given.may_come r.state.rules r.state.taken i (slice_get input r.state.taken) A state_fits.rules runs_r (byte_comes input r.state.taken typed))
 
     c : Came (meaning w) (beginning w.ps ts) s.placements input i A Q (λ a t S z. z.asks) (steps s) n r
     c = comes (meaning w) (beginning w.ps ts) s.placements input i A Q (λ a t S z. z.asks) (steps s) n r (task_at r.state.tasks i) j.placed j.run runs_r refl alive makes

@@ -1,7 +1,7 @@
 mod Owning
 mod Serving
 mod Coming
-mod Longer
+mod Placed
 mod Came
 mod Begun
 mod Joined

@@ -15,7 +15,7 @@ use Rattle.rt_tree.specs.Modules.{mode_along}
 use Rattle.rt_tree.specs.Stored as s
 use Rattle.rt_tree.specs.Stored.{System, StandsAt, module_of, text_mode}
 use Rattle.rt_meaning_laws.specs.Laws.{OneModeAPlace, OneModeAnOwn}
-use Rattle.rt_meaning_laws.specs.Slots.{IsInt, IsOwn, ern, erp, input, output}
+use Rattle.rt_meaning_laws.specs.Slots.{IsInt, ern, erp, input, output}
 use Rattle.rt_meaning_laws.proofs.Errors.{words_at, said}
 use Rattle.rt_meaning_laws.proofs.Small.{some_same}
 

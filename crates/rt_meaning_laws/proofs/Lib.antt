@@ -16,7 +16,7 @@ mod Stores
 mod Writing
 mod Passing
 mod Steps
-mod Running
+pub mod Running
 mod Nodes
 mod Soundness
 mod Grounding
@@ -35,6 +35,6 @@ mod Whole
 mod Telling
 mod Enduring
 mod Ending
-mod SourceRuns
+pub mod SourceRuns
 mod Alone
 pub mod Making

@@ -44,7 +44,7 @@ taken_comes : (r : Roster) (n : ℕ) (input : Option ℕ) → IsInput input → 
 taken_comes r n None h = omega arith
 taken_comes r n (Some b) h = h
 
-comes : (r : Roster) (n i : ℕ) (input : Option ℕ) (q : Request) → i < 65536 → IsInput input → MayCome q (serve r n i input q).outcome
+pub comes : (r : Roster) (n i : ℕ) (input : Option ℕ) (q : Request) → i < 65536 → IsInput input → MayCome q (serve r n i input q).outcome
 comes r n i input Nothing h k = tt
 comes r n i input Takes h k = taken_comes r n input k
 comes r n i input (Puts b) h k = tt

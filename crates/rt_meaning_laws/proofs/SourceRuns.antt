@@ -22,7 +22,7 @@ may_join [] ks a b = b
 may_join (a_tick ∷ hs) ks a b = may_join hs ks a b
 may_join (a_step input ∷ hs) ks a b = (a.0, may_join hs ks a.1 b)
 
-byte_comes : (input : List ℕ) (k : ℕ) → AreBytes input → IsInput (slice_get input k)
+pub byte_comes : (input : List ℕ) (k : ℕ) → AreBytes input → IsInput (slice_get input k)
 byte_comes [] k h = tt
 byte_comes (b ∷ input) zero h = h.0
 byte_comes (b ∷ input) (suc k) h = byte_comes input k h.1

@@ -1,3 +1,3 @@
-mod Longer
+pub mod Longer
 mod Placements
 mod Rising
