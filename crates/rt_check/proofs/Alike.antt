@@ -1,5 +1,5 @@
 -- Starts of data are the same in scopes in which the same is seen.
-use Rattle.std.proofs.Common.{◌≡◌, ℕ, List, [], ◌∷◌, ◌++◌, length, drop, Option, Some, None, refl, sym, ap, ◌∙◌, subst}
+use Rattle.std.proofs.Common.{◌≡◌, ℕ, List, [], ◌∷◌, ◌++◌, length, drop, Option, Some, None, inl, inr, refl, sym, ap, ◌∙◌, subst}
 use Rattle.std.proofs.Math.Path.{fun_ext}
 use Rattle.rt_bricks.specs.declared.tree.DataItem.{DataItem}
 use Rattle.rt_bricks.specs.declared.tree.DataLine.{DataLine}
@@ -13,10 +13,10 @@ use Rattle.rt_modes.specs.declared.mode.RecordDef.{RecordDef}
 use Rattle.rt_check_bodies.specs.Seen.{Alike}
 use Rattle.rt_tree_nodes.specs.declared.brick.DataStart.{DataStart}
 use Rattle.rt_exprs.specs.declared.fault.CheckFault.{CheckFault}
-use Rattle.rt_exprs.specs.declared.fault.CheckFault.TheVariants as fault
 use Rattle.rt_exprs.specs.declared.scope.Scope.{Scope}
 use Rattle.rt_exprs.specs.Names.{find}
-use Rattle.rt_exprs.specs.Outcomes.{IsLeast, Settles}
+use Rattle.rt_exprs.specs.Outcomes.{IsLeast, UnlessMemory}
+use Rattle.rt_exprs.proofs.Joins.{told, given as unless_memory, free}
 use Rattle.rt_sizes.specs.Sizes.{Table}
 use Rattle.rt_check_starts.specs.Bricks.{BrickFault, in_items, in_whole, AreStarts}
 use Rattle.rt_check_starts.specs.Defaults.{has_default, default}
@@ -24,23 +24,6 @@ use Rattle.rt_check_starts.specs.Items.{faults_by, start_faults, items_faults, b
 use Rattle.rt_check_starts.specs.Starts.{Written, written, written_in}
 use Rattle.rt_check_declared.specs.Verdicts.{IsIn}
 use Rattle.rt_check_declared.specs.Written.{Names}
-
-module _ (P Q : CheckFault → Type 0) (to : (g : CheckFault) → P g → Q g) (from : (g : CheckFault) → Q g → P g) where
-  least_as : (g : CheckFault) → IsLeast P g → IsLeast Q g
-  least_as g c = record { stands = to g c.stands; least = λ h q. c.least h (from h q) }
-
-  settles_as : (g : CheckFault) → Settles P g → Settles Q g
-  settles_as fault.Memory c = tt
-  settles_as (fault.UnknownName at) c = least_as _ c
-  settles_as (fault.WrongMode at) c = least_as _ c
-  settles_as (fault.NotAssignable at) c = least_as _ c
-  settles_as (fault.WrongCount at) c = least_as _ c
-  settles_as (fault.RefOfLocal at) c = least_as _ c
-  settles_as (fault.LeftOut form at) c = least_as _ c
-  settles_as (fault.DeclaredTwice at) c = least_as _ c
-  settles_as (fault.BadStart at) c = least_as _ c
-  settles_as (fault.UnknownLabel at) c = least_as _ c
-  settles_as (fault.NoResult at) c = least_as _ c
 
 module _ (s t : Scope) (alike : Alike s t) where
   same_written : written_in s ≡ written_in t
@@ -58,7 +41,7 @@ module _ (s t : Scope) (alike : Alike s t) where
 
   same_faults_by : (at : At) (x : Option Start) (g : Given) → faults_by s at x g ≡ faults_by t at x g
   same_faults_by at x (given.Mode m) = same_start_faults at x m
-  same_faults_by at x (given.Unfit f) = ap (λ (fs : List CheckFault). f ∷ fs) (same_unknown x)
+  same_faults_by at x given.Unknown = same_unknown x
 
   same_items : (is : List DataItem) (ps : List Part) → items_faults s is ps ≡ items_faults t is ps
   same_items [] ps = refl
@@ -77,7 +60,7 @@ module _ (s t : Scope) (alike : Alike s t) where
 
   same_start_by : (x : Option Start) (g : Given) → start_by s x g ≡ start_by t x g
   same_start_by x (given.Mode m) = same_start_of x m
-  same_start_by x (given.Unfit f) = refl
+  same_start_by x given.Unknown = refl
 
   same_items_starts : (is : List DataItem) (ps : List Part) → items_starts s is ps ≡ items_starts t is ps
   same_items_starts [] ps = refl
@@ -102,5 +85,8 @@ module _ (s t : Scope) (alike : Alike s t) where
     pub starts_are : (ss : List DataStart) → AreStarts k s ls ps ss → ss ≡ brick_starts t ls ps
     starts_are ss are = are.are ∙ same_starts ls ps
 
-    pub settled_there : (g : CheckFault) → Settles (BrickFault k s ls ps) g → Settles (BrickFault k t ls ps) g
-    settled_there g c = settles_as (BrickFault k s ls ps) (BrickFault k t ls ps) fault_to fault_from g c
+    pub least_there : (g : CheckFault) → UnlessMemory g (IsLeast (BrickFault k s ls ps) g) → UnlessMemory g (IsLeast (BrickFault k t ls ps) g)
+    least_there g c = elim (told g (IsLeast (BrickFault k s ls ps) g) c) [
+      | inl m ↦ free g (IsLeast (BrickFault k t ls ps) g) m
+      | inr l ↦ unless_memory g (IsLeast (BrickFault k t ls ps) g) (record { stands = fault_to g l.stands; least = λ h q. l.least h (fault_from h q) })
+    ]

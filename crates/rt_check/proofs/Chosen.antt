@@ -88,7 +88,7 @@ module _ (records : List RecordDef) where
   given_chosen : (o : Option Start) (g : Given) → AreSome (start_texts records o g) (in_any o [])
   given_chosen None g = none
   given_chosen (Some x) (given.Mode m) = start_chosen (used records x m) x
-  given_chosen (Some x) (given.Unfit u) = none_of (in_start x [])
+  given_chosen (Some x) given.Unknown = none_of (in_start x [])
 
   items_chosen : (is : List DataItem) (ps : List Part) → AreSome (items_texts records is ps) (in_items is [])
   items_chosen [] ps = none

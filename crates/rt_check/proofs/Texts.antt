@@ -103,6 +103,7 @@ either_way (check.DeclaredTwice at) P h = inr (refl, h)
 either_way (check.BadStart at) P h = inr (refl, h)
 either_way (check.UnknownLabel at) P h = inr (refl, h)
 either_way (check.NoResult at) P h = inr (refl, h)
+either_way check.Unknown P h = inr (refl, h)
 
 pub unfit : (bytes : List ℕ) (m : Module) (r : Answer) (y : ModuleFault) (f : CheckFault) → IsSource bytes m → r ≡ Err y → y ≡ of_check f → UnlessMemory f (Refuses m.declarations f) → IfErr r (IsFaultOf bytes)
 unfit bytes m r y f source is from h = subst (λ (x : Answer). IfErr x (IsFaultOf bytes)) (sym (is ∙ ap refused from)) (by_case (either_way f (Refuses m.declarations f) h)) where

@@ -2,7 +2,6 @@
 use Rattle.std.proofs.Common.{◌≡◌, inl, inr, ℕ, ◌+◌, length, Bool, true, false, [], ◌∷◌, Result, Ok, Err, sym, ap, ◌∙◌, subst}
 use Rattle.rt_bricks.specs.declared.tree.Module.{Module}
 use Rattle.rt_bricks_laws.specs.Strings.{Rise as Rises}
-use Rattle.rt_check_module_laws.specs.Modules.{IsFaultless}
 use Rattle.rt_check_module_laws.proofs.Reading.{module_within}
 use Rattle.rt_check_module_laws.proofs.Whole.{module_fits}
 use Rattle.rt_tree_nodes.specs.declared.brick.ModuleParts.{ModuleParts}
@@ -26,14 +25,11 @@ module _ (m : Module) (d : IsDerived m) where
   pub strings_rise : StringsRise m.declarations
   strings_rise = λ hs. rise_alone 0 (length d.items) (texts_from (records m.declarations).records [] hs m.declarations) (texts_rise (records m.declarations).records d.items m hs d.is_text)
 
-  faultless : (p : ModuleParts) (t : IsTyped m p) → IsFaultless m.declarations t.led
-  faultless p t = record { led = t.are_led; none = t.fit }
-
   pub fits : (p : ModuleParts) → IsTyped m p → every_node_fits p ≡ true
-  fits p t = ap every_node_fits t.is ∙ module_fits d.items m t.led d.is_text (faultless p t)
+  fits p t = ap every_node_fits t.is ∙ module_fits d.items m d.is_text t.fit
 
   pub within : (p : ModuleParts) → IsTyped m p → Within p
-  within p t = subst Within (sym t.is) (module_within d.items m t.led d.is_text (faultless p t))
+  within p t = subst Within (sym t.is) (module_within d.items m d.is_text t.fit)
 
 pub not_both : {A : Type 0} (b : Bool) → b ≡ true → b ≡ false → A
 not_both b e f = absurd (let bad : true ≡ false = sym e ∙ f in cc)

@@ -1,5 +1,5 @@
 -- One more declaration.
-use Rattle.std.proofs.Common.{◌≡◌, ◌⊎◌, ℕ, ◌+◌, ◌<◌, List, [], ◌∷◌, ◌++◌, length, drop, get_or, Option, Some, None, Result, Ok, Err, refl, sym, ap, ◌∙◌, subst, append_assoc}
+use Rattle.std.proofs.Common.{◌≡◌, ◌⊎◌, Bool, true, ℕ, ◌+◌, ◌<◌, List, [], ◌∷◌, ◌++◌, length, drop, get_or, Option, Some, None, Result, Ok, Err, refl, sym, ap, ◌∙◌, subst, append_assoc}
 use Rattle.std.specs.Prelude.{IfOk, IfErr, OnOk}
 use Rattle.rt_bricks.specs.declared.tree.Declaration.{Declaration}
 use Rattle.rt_check_declared.specs.Names.{bricks_in}
@@ -7,7 +7,7 @@ use Rattle.rt_check_declared.specs.declared.bricks.Heading.{Heading}
 use Rattle.rt_modes.specs.declared.mode.RecordDef.{RecordDef}
 use Rattle.rt_exprs.specs.declared.fault.CheckFault.{CheckFault}
 use Rattle.rt_exprs.specs.declared.fault.CheckFault.TheVariants as fault
-use Rattle.rt_exprs.specs.Outcomes.{IsLeast, Settles, UnlessMemory}
+use Rattle.rt_exprs.specs.Outcomes.{IsLeast, UnlessMemory}
 use Rattle.rt_check_declared.specs.Verdicts.{with_fault}
 use Rattle.rt_check_declared.proofs.Joins.{sooner_assoc}
 use Rattle.rt_check_declared.specs.Heads.{noted}
@@ -19,7 +19,7 @@ use Rattle.rt_check_bodies.specs.Sights.{Sight}
 use Rattle.rt_sizes.specs.Sizes.{Table}
 use Rattle.rt_check_module.specs.Tree.{first, gathered, fillings_in, Somewhere, texts_in, texts_from}
 use Rattle.rt_check_module.specs.Faults.{Inside}
-use Rattle.rt_check_module.proofs.Joined.{either_counts}
+use Rattle.rt_check_declared.proofs.Counted.{either_counts}
 use Rattle.rt_check.specs.declared.contents.Contents.{Contents}
 use Rattle.rt_check.specs.Walks.{fillings_by, added, IsJudged}
 
@@ -62,7 +62,7 @@ abbrev fault_in : Result (Option Filling) CheckFault → Option CheckFault
 fault_in (Ok f) = None
 fault_in (Err g) = Some g
 
-least_by : (P : CheckFault → Type 0) (g : CheckFault) → IsJudged {A = Option Filling} (Err g) → Settles P g → IsLeast P g
+least_by : (P : CheckFault → Type 0) (g : CheckFault) → IsJudged {A = Option Filling} (Err g) → UnlessMemory g (IsLeast P g) → IsLeast P g
 least_by P fault.Memory j s = absurd j
 least_by P (fault.UnknownName at) j s = s
 least_by P (fault.WrongMode at) j s = s
@@ -74,8 +74,9 @@ least_by P (fault.DeclaredTwice at) j s = s
 least_by P (fault.BadStart at) j s = s
 least_by P (fault.UnknownLabel at) j s = s
 least_by P (fault.NoResult at) j s = s
+least_by P fault.Unknown j s = s
 
-found_counts : (P : CheckFault → Type 0) (found : Result (Option Filling) CheckFault) → IsJudged found → IfOk found (λ f. (g : CheckFault) → P g → ⊥) → IfErr found (Settles P) → Counts P (fault_in found)
+found_counts : (P : CheckFault → Type 0) (found : Result (Option Filling) CheckFault) → IsJudged found → IfOk found (λ f. (g : CheckFault) → P g → ⊥) → IfErr found (λ f. UnlessMemory f (IsLeast P f)) → Counts P (fault_in found)
 found_counts P (Ok f) j fit settles = fit
 found_counts P (Err g) j fit settles = least_by P g j settles
 
@@ -88,7 +89,7 @@ module _ (P : CheckFault → Option Heading → Declaration → Type 0) (hs : Li
   abbrev All : CheckFault → Type 0
   All g = Somewhere (P g) hs ds
 
-  pub faults_step : IsJudged found → IfOk found (λ f. (g : CheckFault) → P g (first left) d → ⊥) → IfErr found (Settles (λ g. P g (first left) d)) → Leaves All (λ g. Somewhere (P g) left (drop i ds)) c.fault → Leaves All (λ g. Somewhere (P g) behind (drop (i + 1) ds)) new.fault
+  pub faults_step : IsJudged found → IfOk found (λ f. (g : CheckFault) → P g (first left) d → ⊥) → IfErr found (λ f. UnlessMemory f (IsLeast (λ g. P g (first left) d) f)) → Leaves All (λ g. Somewhere (P g) left (drop i ds)) c.fault → Leaves All (λ g. Somewhere (P g) behind (drop (i + 1) ds)) new.fault
   faults_step j fit settles leaves =
       let here : Leaves All (λ g. Somewhere (P g) left (d ∷ drop (i + 1) ds)) c.fault = subst (λ (x : List Declaration). Leaves All (λ g. Somewhere (P g) left x) c.fault) (drop_next ds i d h e) leaves in
       let less : Leaves All (λ g. Somewhere (P g) (drop (bricks_in d) left) (drop (i + 1) ds)) (noted c.fault (fault_in found)) =
@@ -119,29 +120,30 @@ fills_step part all ds i d left behind n c new found h e left_is is held fills =
 
 -- ---- the whole walk
 
-abbrev pub Both : Sight → Table → List Heading → List Declaration → List Heading → List Declaration → Contents → Type 0
-Both s t hs ds left rest c = Fills (gathered (fillings_in s) hs ds) c (gathered (fillings_in s) left rest) × Leaves (λ g. Somewhere (Inside s t g) hs ds) (λ g. Somewhere (Inside s t g) left rest) c.fault
+-- What bricks hold is looked at where they are fit as they are declared.
+abbrev pub Both : Bool → Sight → Table → List Heading → List Declaration → List Heading → List Declaration → Contents → Type 0
+Both fit s t hs ds left rest c = (fit ≡ true → Fills (gathered (fillings_in s) hs ds) c (gathered (fillings_in s) left rest)) × Leaves (λ g. Somewhere (Inside s t g) hs ds) (λ g. Somewhere (Inside s t g) left rest) c.fault
 
-pub both_first : (s : Sight) (t : Table) (hs : List Heading) (ds : List Declaration) (c : Contents) → c ≡ record { fillings = []; fault = None } → Both s t hs ds hs ds c
-both_first s t hs ds c e = subst (Both s t hs ds hs ds) (sym e) ((λ none. refl), leaves_all (λ g. Somewhere (Inside s t g) hs ds))
+pub both_first : (fit : Bool) (s : Sight) (t : Table) (hs : List Heading) (ds : List Declaration) (c : Contents) → c ≡ record { fillings = []; fault = None } → Both fit s t hs ds hs ds c
+both_first fit s t hs ds c e = subst (Both fit s t hs ds hs ds) (sym e) ((λ yes none. refl), leaves_all (λ g. Somewhere (Inside s t g) hs ds))
 
-module _ (own s : Sight) (same : s ≡ own) (t : Table) (hs : List Heading) (ds : List Declaration) (i : ℕ) (d : Declaration) (left behind : List Heading) (h : Option Heading) (n : ℕ) (c new : Contents) (found : Result (Option Filling) CheckFault) where
-  pub both_next : i < length ds → d ≡ get_or ds i d → behind ≡ drop (bricks_in d) left → new ≡ added n c found → n ≡ bricks_in d → h ≡ first left → IsJudged found → IfOk found (λ f. fillings_by (bricks_in d) f ≡ fillings_in s h d)
-      → IfOk found (λ f. (g : CheckFault) → Inside s t g h d → ⊥) → IfErr found (Settles (λ g. Inside s t g h d)) → Both own t hs ds left (drop i ds) c → Both own t hs ds behind (drop (i + 1) ds) new
+module _ (is_fit : Bool) (own s : Sight) (same : s ≡ own) (t : Table) (hs : List Heading) (ds : List Declaration) (i : ℕ) (d : Declaration) (left behind : List Heading) (h : Option Heading) (n : ℕ) (c new : Contents) (found : Result (Option Filling) CheckFault) where
+  pub both_next : i < length ds → d ≡ get_or ds i d → behind ≡ drop (bricks_in d) left → new ≡ added n c found → n ≡ bricks_in d → h ≡ first left → IsJudged found → (is_fit ≡ true → IfOk found (λ f. fillings_by (bricks_in d) f ≡ fillings_in s h d))
+      → IfOk found (λ f. (g : CheckFault) → Inside s t g h d → ⊥) → IfErr found (λ f. UnlessMemory f (IsLeast (λ g. Inside s t g h d) f)) → Both is_fit own t hs ds left (drop i ds) c → Both is_fit own t hs ds behind (drop (i + 1) ds) new
   both_next less e left_is is n_is h_is judged held fit settles both =
-      let held_own : IfOk found (λ f. fillings_by n f ≡ fillings_in own (first left) d) =
+      let held_own : is_fit ≡ true → IfOk found (λ f. fillings_by n f ≡ fillings_in own (first left) d) = λ yes.
       subst (λ (m : ℕ). IfOk found (λ f. fillings_by m f ≡ fillings_in own (first left) d)) (sym n_is)
-      (subst (λ (x : Option Heading). IfOk found (λ f. fillings_by (bricks_in d) f ≡ fillings_in own x d)) h_is (subst (λ (x : Sight). IfOk found (λ f. fillings_by (bricks_in d) f ≡ fillings_in x h d)) same held)) in
+      (subst (λ (x : Option Heading). IfOk found (λ f. fillings_by (bricks_in d) f ≡ fillings_in own x d)) h_is (subst (λ (x : Sight). IfOk found (λ f. fillings_by (bricks_in d) f ≡ fillings_in x h d)) same (held yes))) in
       let fit_own : IfOk found (λ f. (g : CheckFault) → Inside own t g (first left) d → ⊥) =
       subst (λ (x : Option Heading). IfOk found (λ f. (g : CheckFault) → Inside own t g x d → ⊥)) h_is (subst (λ (x : Sight). IfOk found (λ f. (g : CheckFault) → Inside x t g h d → ⊥)) same fit) in
-      let settles_own : IfErr found (Settles (λ g. Inside own t g (first left) d)) =
-      subst (λ (x : Option Heading). IfErr found (Settles (λ g. Inside own t g x d))) h_is (subst (λ (x : Sight). IfErr found (Settles (λ g. Inside x t g h d))) same settles) in (
-        fills_step (fillings_in own) (gathered (fillings_in own) hs ds) ds i d left behind n c new found less e left_is is held_own both.0,
+      let settles_own : IfErr found (λ f. UnlessMemory f (IsLeast (λ g. Inside own t g (first left) d) f)) =
+      subst (λ (x : Option Heading). IfErr found (λ f. UnlessMemory f (IsLeast (λ g. Inside own t g x d) f))) h_is (subst (λ (x : Sight). IfErr found (λ f. UnlessMemory f (IsLeast (λ g. Inside x t g h d) f))) same settles) in (
+        λ yes. fills_step (fillings_in own) (gathered (fillings_in own) hs ds) ds i d left behind n c new found less e left_is is (held_own yes) (both.0 yes),
         faults_step (λ g x y. Inside own t g x y) hs ds i d left behind n c new found less e left_is is judged fit_own settles_own both.1,
       )
 
-pub both_last : (s : Sight) (t : Table) (hs : List Heading) (ds : List Declaration) (left : List Heading) (rest : List Declaration) (c : Contents) → rest ≡ [] → Both s t hs ds left rest c → Counts (λ g. Somewhere (Inside s t g) hs ds) c.fault
-both_last s t hs ds left rest c e both =
+pub both_last : (fit : Bool) (s : Sight) (t : Table) (hs : List Heading) (ds : List Declaration) (left : List Heading) (rest : List Declaration) (c : Contents) → rest ≡ [] → Both fit s t hs ds left rest c → Counts (λ g. Somewhere (Inside s t g) hs ds) c.fault
+both_last fit s t hs ds left rest c e both =
     leaves_none (λ g. Somewhere (Inside s t g) hs ds) c.fault (subst (λ (xs : List Declaration). Leaves (λ g. Somewhere (Inside s t g) hs ds) (λ g. Somewhere (Inside s t g) left xs) c.fault) e both.1)
 
 pub judged_keeps : (P : Type 0) (found : Result (Option Filling) CheckFault) → IsJudged found → OnOk found P → IfErr found (λ g. UnlessMemory g P) → P
@@ -157,3 +159,4 @@ judged_keeps P (Err (fault.DeclaredTwice at)) j k l = l
 judged_keeps P (Err (fault.BadStart at)) j k l = l
 judged_keeps P (Err (fault.UnknownLabel at)) j k l = l
 judged_keeps P (Err (fault.NoResult at)) j k l = l
+judged_keeps P (Err fault.Unknown) j k l = l

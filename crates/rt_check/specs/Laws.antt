@@ -6,7 +6,7 @@ use Rattle.rt_exprs.specs.declared.fault.CheckFault.{CheckFault}
 use Rattle.rt_check_module.specs.Typed.{IsTyped}
 use Rattle.rt_check.specs.Whole.{Refuses}
 
--- A module has one typed tree at most, however the faults are chosen to which its records lead.
+-- A module has one typed tree at most.
 abbrev pub OneTree : Type 0
 OneTree = (m : Module) (t u : ModuleParts) → IsTyped m t → IsTyped m u → t ≡ u
 

@@ -8,7 +8,7 @@ use Rattle.rt_modes.specs.declared.mode.RecordDef.{RecordDef}
 use Rattle.rt_exprs.specs.declared.fault.CheckFault.{CheckFault}
 use Rattle.rt_exprs.specs.Outcomes.{IsLeast}
 use Rattle.rt_syntax.specs.Strings.{Texts}
-use Rattle.rt_check_module.specs.Tree.{Faults, Led, records, texts_from}
+use Rattle.rt_check_module.specs.Tree.{records, texts_from}
 use Rattle.rt_check_module.specs.Faults.{Stands}
 
 -- strings from item low on, each behind the one before it
@@ -26,11 +26,9 @@ abbrev pub TextsRise : List RecordDef → List Heading → List Declaration → 
 TextsRise rs hs ds = Rise 0 (texts_from rs [] hs ds)
 
 -- what the bricks that are declared so see, where the module's names stand for this
-abbrev pub sight_of : List RecordDef → Faults → List Heading → List Declaration → Level → Sight
-sight_of rs us hs ds l = record { records = rs; unfit = us; strings = map (λ t. t.0) (texts_from rs [] hs ds); levels = l ∷ [] }
+abbrev pub sight_of : List RecordDef → List Heading → List Declaration → Level → Sight
+sight_of rs hs ds l = record { records = rs; strings = map (λ t. t.0) (texts_from rs [] hs ds); levels = l ∷ [] }
 
 -- the fault stands in the module, and counts of all that stand
-pub record Refuses (ds : List Declaration) (g : CheckFault) : Type 0 where
-  pub led : Faults
-  pub are_led : Led ds led
-  pub counts : IsLeast (Stands ds led) g
+abbrev pub Refuses : List Declaration → CheckFault → Type 0
+Refuses ds g = IsLeast (Stands ds) g

@@ -47,7 +47,7 @@ fn sort_by(alloc: Global, sort: Sort, filling: Filling) -> Result<BrickSort, Mem
     match sort {
         Sort::Procedure(given) => match given {
             Given::Mode(mode) => Ok(BrickSort::Proc(mode, filling.body)),
-            Given::Unfit(_) => Ok(BrickSort::Stack(0)),
+            Given::Unknown => Ok(BrickSort::Stack(0)),
         },
         Sort::Items(parts) => {
             let fields = all_fields(alloc, parts.as_slice())?;

@@ -4,7 +4,7 @@ ghost use Rattle.std.specs.Prelude.{IfOk, IfErr};
 ghost use Rattle.rt_exprs.specs.declared.fault.CheckFault.{CheckFault};
 ghost use Rattle.rt_exprs.specs.Outcomes.{IsAnswered, UnlessMemory};
 ghost use Rattle.rt_tree.specs.Within.{Within};
-ghost use Rattle.rt_check_module.specs.Tree.{Faults, Led, tree};
+ghost use Rattle.rt_check_module.specs.Tree.{tree};
 ghost use Rattle.rt_check_module.specs.Typed.{IsTyped};
 ghost use Rattle.rt_check_module.specs.Faults.{Stands};
 ghost use Rattle.rt_check.specs.Whole.{Refuses};
@@ -28,7 +28,7 @@ pub fn check_module(alloc: Global, source: &Module) -> Result<TypedModule, Check
     // Its procedures stay within what the code of a procedure may take.
     ensures within { IsDerived source.now → IfOk result Within }
     // Where no fault stands it is answered, unless memory runs out.
-    ensures only { (us : Faults) → IsDerived source.now → Led source.now.declarations us → ((g : CheckFault) → Stands source.now.declarations us g → ⊥) → IsAnswered (tree source.now us) result }
+    ensures only { IsDerived source.now → ((g : CheckFault) → Stands source.now.declarations g → ⊥) → IsAnswered (tree source.now) result }
     // A fault stands, and counts of all that stand.
     ensures fault { IsDerived source.now → IfErr result (λ g. UnlessMemory g (Refuses source.now.declarations g)) }
 {

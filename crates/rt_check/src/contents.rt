@@ -1,11 +1,11 @@
 //! What bricks hold.
 
-ghost use Rattle.std.specs.Prelude.{◌≡◌, ◌++◌, List, [], ◌∷◌, Option, Some, None, replicate, IfOk, IfErr, OnOk};
+ghost use Rattle.std.specs.Prelude.{◌≡◌, true, ◌++◌, List, [], ◌∷◌, Option, Some, None, replicate, IfOk, IfErr, OnOk};
 ghost use Rattle.std.specs.Option.{option_copied};
 ghost use Rattle.rt_check_declared.specs.Totals.{LargeFault};
 ghost use Rattle.rt_check_bodies.specs.Sights.{scope_of};
 ghost use Rattle.rt_exprs.specs.declared.fault.CheckFault.{CheckFault};
-ghost use Rattle.rt_exprs.specs.Outcomes.{Settles, UnlessMemory};
+ghost use Rattle.rt_exprs.specs.Outcomes.{IsLeast, UnlessMemory};
 ghost use Rattle.rt_check_declared.specs.Records.{Counts};
 ghost use Rattle.rt_sizes.specs.Capped.{AreSizes};
 ghost use Rattle.rt_sizes.specs.Sizes.{Table};
@@ -74,15 +74,17 @@ impl Contents {
     }
 }
 
-/// What the bricks of a module hold that are declared so.
+/// What the bricks of a module hold that are declared so. `is_fit` says that no fault stands outside of what bricks hold: where
+/// one does they are judged, and no starts are made.
 pub fn read_contents<'m>(
     alloc: Global,
     names: &mut Names<'m>,
     sizes: &[Option<Size>],
     declarations: &'m [Declaration],
     bricks: &[Heading],
+    is_fit: bool,
 ) -> Result<Contents, Memory>
-    ensures fillings { (t : Table) → AreSizes t sizes.now → IfOk result (λ c. c.fault ≡ None → c.fillings ≡ spec.gathered (spec.fillings_in names.old) bricks.now declarations.now) }
+    ensures fillings { (t : Table) → AreSizes t sizes.now → is_fit ≡ true → IfOk result (λ c. c.fault ≡ None → c.fillings ≡ spec.gathered (spec.fillings_in names.old) bricks.now declarations.now) }
     // The fault that counts; there is none only where none stands.
     ensures fault { (t : Table) → AreSizes t sizes.now → IfOk result (λ c. Counts (λ g. spec.Somewhere (stands.Inside names.old t g) bricks.now declarations.now) c.fault) }
 {
@@ -92,7 +94,7 @@ pub fn read_contents<'m>(
     };
     let mut left = bricks;
     for declaration in declarations {
-        let found = filling_of(alloc, names, sizes, first(left), declaration);
+        let found = filling_of(alloc, names, sizes, first(left), declaration, is_fit);
         contents.add(alloc, bricks_in(declaration), found)?;
         left = behind(left, declaration);
     }
@@ -106,10 +108,11 @@ fn filling_of<'m>(
     sizes: &[Option<Size>],
     brick: Option<&Heading>,
     declaration: &'m Declaration,
+    is_fit: bool,
 ) -> Result<Option<Filling>, CheckFault>
-    ensures held { (t : Table) → AreSizes t sizes.now → IfOk result (λ f. walks.fillings_by (known.bricks_in declaration.now) f ≡ spec.fillings_in names.old (option_copied brick.entry) declaration.now) }
+    ensures held { (t : Table) → AreSizes t sizes.now → is_fit ≡ true → IfOk result (λ f. walks.fillings_by (known.bricks_in declaration.now) f ≡ spec.fillings_in names.old (option_copied brick.entry) declaration.now) }
     ensures fit { (t : Table) → AreSizes t sizes.now → IfOk result (λ _. (g : CheckFault) → stands.Inside names.old t g (option_copied brick.entry) declaration.now → ⊥) }
-    ensures fault { (t : Table) → AreSizes t sizes.now → IfErr result (Settles (λ g. stands.Inside names.old t g (option_copied brick.entry) declaration.now)) }
+    ensures fault { (t : Table) → AreSizes t sizes.now → IfErr result (λ f. UnlessMemory f (IsLeast (λ g. stands.Inside names.old t g (option_copied brick.entry) declaration.now) f)) }
     ensures kept { IfErr result (λ g. UnlessMemory g (names.new ≡ names.old)) }
     ensures kept_ok { OnOk result (names.new ≡ names.old) }
 {
@@ -121,6 +124,7 @@ fn filling_of<'m>(
                 sizes,
                 brick_data.lines.as_slice(),
                 items_in(brick),
+                is_fit,
             )
         }
         Declaration::Procedure(procedure) => procedure_filling(alloc, names, procedure),
@@ -136,12 +140,13 @@ fn data_filling(
     sizes: &[Option<Size>],
     lines: &[DataLine],
     parts: &[Part],
+    is_fit: bool,
 ) -> Result<Option<Filling>, CheckFault>
-    ensures held { (t : Table) → AreSizes t sizes.now → IfOk result (λ f. f ≡ Some (record { body = None; starts = brick_starts (scope_of names.now) lines.now parts.now })) }
+    ensures held { (t : Table) → AreSizes t sizes.now → is_fit ≡ true → IfOk result (λ f. f ≡ Some (record { body = None; starts = brick_starts (scope_of names.now) lines.now parts.now })) }
     ensures fit { (t : Table) → AreSizes t sizes.now → IfOk result (λ _. (g : CheckFault) → BrickFault t (scope_of names.now) lines.now parts.now g → ⊥) }
-    ensures fault { (t : Table) → AreSizes t sizes.now → IfErr result (Settles (BrickFault t (scope_of names.now) lines.now parts.now)) }
+    ensures fault { (t : Table) → AreSizes t sizes.now → IfErr result (λ g. UnlessMemory g (IsLeast (BrickFault t (scope_of names.now) lines.now parts.now) g)) }
 {
-    match read_starts(alloc, &names.scope(), lines, parts, sizes) {
+    match read_starts(alloc, &names.scope(), lines, parts, sizes, is_fit) {
         Ok(starts) => Ok(Some(Filling { body: None, starts })),
         Err(fault) => Err(fault),
     }
@@ -155,7 +160,7 @@ fn procedure_filling<'m>(
 ) -> Result<Option<Filling>, CheckFault>
     ensures held { IfOk result (λ f. f ≡ Some (record { body = Some (statements.procedure names.old procedure.now); starts = [] })) }
     ensures fit { IfOk result (λ _. (g : CheckFault) → statements.Stands names.old procedure.now g → ⊥) }
-    ensures fault { IfErr result (Settles (statements.Stands names.old procedure.now)) }
+    ensures fault { IfErr result (λ g. UnlessMemory g (IsLeast (statements.Stands names.old procedure.now) g)) }
     ensures kept { IfErr result (λ g. UnlessMemory g (names.new ≡ names.old)) }
     ensures kept_ok { OnOk result (names.new ≡ names.old) }
 {
@@ -175,7 +180,7 @@ fn imported_filling(
 ) -> Result<Option<Filling>, CheckFault>
     ensures held { IfOk result (λ f. f ≡ None) }
     ensures fit { (t : Table) → AreSizes t sizes.now → IfOk result (λ _. (g : CheckFault) → LargeFault t parts.now g → ⊥) }
-    ensures fault { (t : Table) → AreSizes t sizes.now → IfErr result (Settles (LargeFault t parts.now)) }
+    ensures fault { (t : Table) → AreSizes t sizes.now → IfErr result (λ g. UnlessMemory g (IsLeast (LargeFault t parts.now) g)) }
 {
     match large_item(alloc, parts, sizes)? {
         Some(fault) => Err(fault),

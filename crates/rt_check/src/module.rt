@@ -1,11 +1,11 @@
 //! The tree of a whole module.
 
-ghost use Rattle.std.specs.Prelude.{◌≡◌, ℕ, [], map, None, IfOk, IfErr};
+ghost use Rattle.std.specs.Prelude.{◌≡◌, ℕ, true, [], map, None, IfOk, IfErr};
 ghost use Rattle.rt_exprs.specs.declared.fault.CheckFault.{CheckFault};
 ghost use Rattle.rt_exprs.specs.Outcomes.{IsAnswered, UnlessMemory};
 ghost use Rattle.rt_syntax.specs.Strings.{text_of};
 ghost use Rattle.rt_check_module.specs.Tree as spec;
-ghost use Rattle.rt_check_module.specs.Tree.{Faults, Led, tree};
+ghost use Rattle.rt_check_module.specs.Tree.{tree};
 ghost use Rattle.rt_check_module.specs.Faults.{Inside as InBrick};
 ghost use Rattle.rt_check_declared.specs.Records.{Counts};
 ghost use Rattle.rt_check_bodies.specs.Seen.{names_of};
@@ -40,7 +40,7 @@ pub fn read_module(alloc: Global, source: &Module) -> Result<ModuleParts, CheckF
     // What is answered is the typed tree, and no fault stands.
     ensures tree { StringsRise source.now.declarations → IfOk result (IsTyped source.now) }
     // Where none stands it is answered, unless memory runs out.
-    ensures only { (us : Faults) → StringsRise source.now.declarations → Led source.now.declarations us → ((g : CheckFault) → Stands source.now.declarations us g → ⊥) → IsAnswered (tree source.now us) result }
+    ensures only { StringsRise source.now.declarations → ((g : CheckFault) → Stands source.now.declarations g → ⊥) → IsAnswered (tree source.now) result }
     // A fault stands, and counts of all that stand.
     ensures fault { StringsRise source.now.declarations → IfErr result (λ g. UnlessMemory g (Refuses source.now.declarations g)) }
 {
@@ -49,7 +49,6 @@ pub fn read_module(alloc: Global, source: &Module) -> Result<ModuleParts, CheckF
     let Scene {
         modes,
         sizes,
-        unfit,
         bricks,
         level,
         fault,
@@ -59,9 +58,9 @@ pub fn read_module(alloc: Global, source: &Module) -> Result<ModuleParts, CheckF
         declarations,
         &modes,
         sizes.as_slice(),
-        unfit.as_slice(),
         bricks.as_slice(),
         level,
+        fault.is_none(),
     )?;
     match either(fault, inside.fault) {
         Some(fault) => Err(fault),
@@ -82,31 +81,33 @@ struct Inside {
     strings: List<Bytes>,
 }
 
-/// What stands inside the bricks of a module that are declared so, where names stand for this.
+/// What stands inside the bricks of a module that are declared so, where names stand for this; `is_fit` says that no fault stands
+/// outside of them.
 fn read_inside<'m>(
     alloc: Global,
     declarations: &'m [Declaration],
     modes: &IndexedRecords,
     sizes: &[Option<Size>],
-    unfit: &[Option<CheckFault>],
     bricks: &[Heading],
     level: Level<'m>,
+    is_fit: bool,
 ) -> Result<Inside, Memory>
     ensures strings { IfOk result (λ h. h.strings ≡ map (λ t. t.1) (spec.texts_from modes.now.records [] bricks.now declarations.now)) }
-    ensures fillings { (t : Table) → AreSizes t sizes.now → TextsRise modes.now.records bricks.now declarations.now → IfOk result (λ h. h.fault ≡ None → h.fillings ≡ spec.gathered (spec.fillings_in (sight_of modes.now.records unfit.now bricks.now declarations.now (names_of level.entry))) bricks.now declarations.now) }
-    ensures fault { (t : Table) → AreSizes t sizes.now → TextsRise modes.now.records bricks.now declarations.now → IfOk result (λ h. Counts (λ g. spec.Somewhere (InBrick (sight_of modes.now.records unfit.now bricks.now declarations.now (names_of level.entry)) t g) bricks.now declarations.now) h.fault) }
+    ensures fillings { (t : Table) → AreSizes t sizes.now → TextsRise modes.now.records bricks.now declarations.now → is_fit ≡ true → IfOk result (λ h. h.fault ≡ None → h.fillings ≡ spec.gathered (spec.fillings_in (sight_of modes.now.records bricks.now declarations.now (names_of level.entry))) bricks.now declarations.now) }
+    ensures fault { (t : Table) → AreSizes t sizes.now → TextsRise modes.now.records bricks.now declarations.now → IfOk result (λ h. Counts (λ g. spec.Somewhere (InBrick (sight_of modes.now.records bricks.now declarations.now (names_of level.entry)) t g) bricks.now declarations.now) h.fault) }
 {
     let texts = read_texts(alloc, declarations, modes.table(), bricks)?;
     let items = string_items(alloc, texts.as_slice())?;
     let strings = copy_texts(alloc, texts.as_slice())?;
     drop(texts);
-    let mut names = Names::new(alloc, modes, unfit, &items, level)?;
+    let mut names = Names::new(alloc, modes, &items, level)?;
     let Contents { fillings, fault } = read_contents(
         alloc,
         &mut names,
         sizes,
         declarations,
         bricks,
+        is_fit,
     )?;
     Ok(Inside {
         fillings,

@@ -9,9 +9,6 @@ use Rattle.std.specs.declared.hash.FoldHasher.{FoldHasher}
 use Rattle.std.specs.declared.hash.BuildHasherDefault.{BuildHasherDefault}
 use Rattle.std.specs.Map.{keys_of}
 use Rattle.rt_modes.specs.declared.mode.ModeTable.{ModeTable}
-use Rattle.rt_exprs.specs.declared.fault.CheckFault.{CheckFault}
-use Rattle.rt_exprs.specs.declared.fault.CheckFault.TheVariants as fault
-use Rattle.rt_exprs.specs.Outcomes.{UnlessMemory}
 use denote.Bor.{Bor}
 use Rattle.rt_exprs.specs.declared.scope.Meaning.{Meaning}
 use Rattle.rt_exprs.specs.Names.{find_in, find}
@@ -76,10 +73,10 @@ keys_back [] = refl
 keys_back (k ∷ ks) = ap (λ (xs : List ℕ). k ∷ xs) (keys_back ks)
 
 -- what the program makes of its names is alike to what contracts make of them
-pub alike_scope : (modes : Bor ModeTable) (strings : Bor (IndexSet ℕ (BuildHasherDefault FoldHasher))) (unfit : List (Option CheckFault))
+pub alike_scope : (modes : Bor ModeTable) (strings : Bor (IndexSet ℕ (BuildHasherDefault FoldHasher)))
     (lent : Bor (List (IndexMap (Bor (List ℕ)) Meaning (BuildHasherDefault FoldHasher)))) (ls : List (IndexMap (Bor (List ℕ)) Meaning (BuildHasherDefault FoldHasher))) → lent.now ≡ ls
-    → Alike (record { modes = modes; strings = strings; levels = lent }) (scope_of (record { records = modes.now.records; unfit = unfit; strings = strings.now.keys; levels = map names_of ls }))
-alike_scope modes strings unfit lent ls e = record {
+    → Alike (record { modes = modes; strings = strings; levels = lent }) (scope_of (record { records = modes.now.records; strings = strings.now.keys; levels = map names_of ls }))
+alike_scope modes strings lent ls e = record {
   records = refl;
   strings = keys_back strings.now.keys;
   names = λ n. ap (λ (xs : List (IndexMap (Bor (List ℕ)) Meaning (BuildHasherDefault FoldHasher))). find_in xs n) e ∙ levels_same n ls;
@@ -94,16 +91,3 @@ found_by {S} s lent ls e f n =
 
 pub all_found_by : {S : Type 0} (s : Sight) (lent ls : List (IndexMap (Bor (List ℕ)) Meaning S)) → lent ≡ ls → map names_of ls ≡ s.levels → find_in lent ≡ find (scope_of s)
 all_found_by s lent ls e f = λ i n. found_by s lent ls e f n i
-
-pub unless_memory : {P : Type 0} (g : CheckFault) → P → UnlessMemory g P
-unless_memory fault.Memory p = tt
-unless_memory (fault.UnknownName at) p = p
-unless_memory (fault.WrongMode at) p = p
-unless_memory (fault.NotAssignable at) p = p
-unless_memory (fault.WrongCount at) p = p
-unless_memory (fault.RefOfLocal at) p = p
-unless_memory (fault.LeftOut form at) p = p
-unless_memory (fault.DeclaredTwice at) p = p
-unless_memory (fault.BadStart at) p = p
-unless_memory (fault.UnknownLabel at) p = p
-unless_memory (fault.NoResult at) p = p

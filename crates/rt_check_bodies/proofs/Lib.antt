@@ -1,5 +1,6 @@
 pub mod Alike
 pub mod Levels
+pub mod Told
 pub mod Lines
 pub mod Declaring
 pub mod Wholes

@@ -1,5 +1,6 @@
 -- Parts of a procedure: what each is, and what has been counted behind it, by what has been counted before it. Where a part
--- is unfit its fault is noted, and something else stands in its place; a tree that holds such a part is never answered.
+-- is unfit its fault is noted, and something else of its form stands in its place, as where it can't be known. No tree of a
+-- module holds such a part: a fault stands in the module there.
 use Rattle.std.specs.Prelude.{◌≡◌, ℕ, ◌+◌, ◌%◌, Bool, true, false, List, [], ◌∷◌, ◌++◌, length, None, Ok, Err}
 use Rattle.rt_grammar.specs.declared.at.Ident.{Ident}
 use Rattle.rt_modes.specs.declared.mode.Mode.{Mode}
@@ -24,6 +25,11 @@ use Rattle.rt_check_bodies.specs.Sights.{Names, Sight, holds, declared, label_in
 -- one more fault
 abbrev pub noted : CheckFault → Tally → Tally
 noted g t = record { locals = t.locals; labels = t.labels; faults = t.faults ++ g ∷ [] }
+
+-- what can't be known is none
+abbrev pub noted_known : CheckFault → Tally → Tally
+noted_known fault.Unknown t = t
+noted_known g t = noted g t
 
 abbrev pub noted_if : Bool → CheckFault → Tally → Tally
 noted_if true g t = noted g t
@@ -73,13 +79,16 @@ number_next t = (next_local t, t)
 -- what is found, or else what stands in its place, and its fault is noted
 abbrev pub found_or : {A : Type 0} → A → Outcome A → Part A
 found_or other (Ok x) t = (x, t)
-found_or other (Err g) t = (other, noted g t)
+found_or other (Err g) t = (other, noted_known g t)
 
 abbrev pub value_or : Outcome Value → Part Value
 value_or = found_or (values.Number 0)
 
 abbrev pub stat_or : Outcome Stat → Part Stat
-stat_or = found_or (stats.Return None)
+stat_or = found_or (stats.Call (values.Number 0))
+
+abbrev pub return_or : Outcome Stat → Part Stat
+return_or = found_or (stats.Return None)
 
 abbrev pub test_or : Outcome Test → Part Test
 test_or = found_or (tests.Compare rel.Equal (values.Number 0) (values.Number 0))

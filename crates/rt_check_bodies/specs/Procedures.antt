@@ -29,7 +29,7 @@ abbrev pub parameter : Names → Ident → Mode → Part Names
 parameter l n m t = (declared n.name (meaning.Local (next_local t) m) l, with_local (made.Variable m) (noted_twice l n t))
 
 abbrev pub named : Names → Ident → Outcome Mode → Part Names
-named l n (Err g) t = (declared n.name (meaning.Unfit g) l, noted_twice l n t)
+named l n (Err g) t = (declared n.name meaning.Unknown l, noted_twice l n t)
 named l n (Ok m) t = parameter l n m t
 
 abbrev pub group : Outcome Mode → Names → List Ident → Part Names
@@ -48,7 +48,7 @@ parameters s l (f ∷ fs) = do
 
 abbrev pub wanted : Outcome Mode → Answer
 wanted (Ok m) = answer.Wanted m
-wanted (Err g) = answer.Unfit
+wanted (Err g) = answer.Unknown
 
 -- where a written mode begins
 abbrev pub answer_in : Sight → At → Option WrittenMode → Part Answer

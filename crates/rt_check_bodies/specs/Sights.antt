@@ -19,6 +19,7 @@ use Rattle.rt_modes.specs.declared.mode.RecordDef.{RecordDef}
 use Rattle.rt_tree_nodes.specs.declared.statement.Stat.{Stat}
 use Rattle.rt_tree_nodes.specs.declared.statement.Stat.TheVariants as stats
 use Rattle.rt_tree_nodes.specs.declared.statement.Test.{Test}
+use Rattle.rt_tree_nodes.specs.declared.value.Place.{Place}
 use Rattle.rt_tree_nodes.specs.declared.value.Value.{Value}
 use Rattle.rt_exprs.specs.declared.fault.CheckFault.{CheckFault}
 use Rattle.rt_exprs.specs.declared.fault.CheckFault.TheVariants as fault
@@ -26,25 +27,22 @@ use Rattle.rt_exprs.specs.declared.scope.Meaning.{Meaning}
 use Rattle.rt_exprs.specs.declared.scope.Meaning.TheVariants as meaning
 use Rattle.rt_exprs.specs.declared.scope.Scope.{Scope}
 use Rattle.rt_exprs.specs.Modes.{want}
-use Rattle.rt_exprs.specs.Outcomes.{Outcome, ◌>>=◌}
+use Rattle.rt_exprs.specs.Outcomes.{Outcome, ◌>>=◌, unknown, sooner}
 use Rattle.rt_exprs.specs.Names.{find}
-use Rattle.rt_exprs.specs.Judging.{fitted, target, val_target, alone, tested}
+use Rattle.rt_exprs.specs.Judging.{fitted, fitted_alone, fitted_nowhere, target, val_target, alone, tested}
 use Rattle.rt_check_declared.specs.declared.written.Resolved.{Resolved}
 use Rattle.rt_check_declared.specs.declared.written.Resolved.TheVariants as resolved
 use Rattle.rt_check_declared.specs.declared.site.Site.TheVariants as site
 use Rattle.rt_check_declared.specs.Verdicts.{outcome}
 use Rattle.rt_check_declared.specs.Written.{written}
-use Rattle.rt_check_declared.specs.Unfit.{unfit_record}
 
 -- The names of one level, in the order of declaration, and what they stand for.
 abbrev pub Names : Type 0
 Names = List (List ℕ × Meaning)
 
--- What a node sees: the records of the module, of each record its fault where it is unfit, the items of the module's
--- strings, and the levels of names, innermost first.
+-- What a node sees: the records of the module, the items of the module's strings, and the levels of names, innermost first.
 pub record Sight : Type 0 where
   pub records : List RecordDef
-  pub unfit : List (Option CheckFault)
   pub strings : List ℕ
   pub levels : List Names
 
@@ -59,7 +57,7 @@ abbrev pub declared : List ℕ → Meaning → Names → Names
 declared n m l = if holds l n then l else l ++ (n, m) ∷ []
 
 abbrev pub with_levels : Sight → List Names → Sight
-with_levels s ls = record { records = s.records; unfit = s.unfit; strings = s.strings; levels = ls }
+with_levels s ls = record { records = s.records; strings = s.strings; levels = ls }
 
 -- inside a level of these names
 abbrev pub within : Names → Sight → Sight
@@ -107,12 +105,28 @@ scope_of s = record {
 abbrev pub value_in : Sight → Expr → Mode → Outcome Value
 value_in s e m = fitted (scope_of s) e (want m)
 
--- In an assignment the mode of the place is wanted of the expression.
+-- the fault of an expression that is judged by itself, and of one where nothing is wanted
+abbrev pub alone_in : Sight → Expr → CheckFault
+alone_in s e = fitted_alone (scope_of s) e
+
+abbrev pub nowhere_in : Sight → Expr → CheckFault
+nowhere_in s e = fitted_nowhere (scope_of s) e
+
+-- to a place that is known, or that can't be
+abbrev pub assigning : Option Place → Value → Outcome Stat
+assigning None x = unknown
+assigning (Some p) x = Ok (stats.Assign p x)
+
+-- In an assignment the mode of the place is wanted of the expression. Where that can't be known it is judged by itself.
+abbrev pub assigned_in : Sight → Outcome (Option Place × Mode) → Expr → Outcome Stat
+assigned_in s (Ok p) e = value_in s e p.1 >>= assigning p.0
+assigned_in s (Err g) e = Err (sooner g (alone_in s e))
+
 abbrev pub assignment_in : Sight → Chain → Expr → Outcome Stat
-assignment_in s c e = target (scope_of s) c >>= λ p. value_in s e p.1 >>= λ x. Ok (stats.Assign p.0 x)
+assignment_in s c e = assigned_in s (target (scope_of s) c) e
 
 abbrev pub val_assignment_in : Sight → At → Chain → Expr → Outcome Stat
-val_assignment_in s at c e = val_target (scope_of s) at c >>= λ p. value_in s e p.1 >>= λ x. Ok (stats.Assign p.0 x)
+val_assignment_in s at c e = assigned_in s (val_target (scope_of s) at c) e
 
 -- a chain that stands alone
 abbrev pub call_in : Sight → Chain → Outcome Stat
@@ -132,15 +146,11 @@ label_in s n = label_by n.at (find (scope_of s) n.name)
 
 -- ---- modes of parameters, locals and results
 
-abbrev pub unless_unfit : Mode → Option CheckFault → Outcome Mode
-unless_unfit m None = Ok m
-unless_unfit m (Some g) = Err g
-
--- An array is none. A mode that leads to an unfit record has that record's fault.
-abbrev pub variable_by : List (Option CheckFault) → At → Resolved → Outcome Mode
-variable_by unfit at (resolved.Mode m) = unless_unfit m (unfit_record unfit m)
-variable_by unfit at resolved.BadLength = Err (fault.LeftOut 3 at)
+-- An array is none.
+abbrev pub variable_by : At → Resolved → Outcome Mode
+variable_by at (resolved.Mode m) = Ok m
+variable_by at resolved.BadLength = Err (fault.LeftOut 3 at)
 
 -- the mode that is written at an item
 abbrev pub mode_in : Sight → At → WrittenMode → Outcome Mode
-mode_in s at w = outcome (written (find (scope_of s)) w site.Variable) >>= variable_by s.unfit at
+mode_in s at w = outcome (written (find (scope_of s)) w site.Variable) >>= variable_by at

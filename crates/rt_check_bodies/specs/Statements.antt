@@ -1,6 +1,6 @@
 -- What a body is as a tree, and the faults that stand in it. Each part is judged by what it sees and by what has been counted
--- before it. Where a part is unfit its fault is noted, and something else stands in its place; a tree that holds such a part
--- is never answered.
+-- before it. Where a part is unfit its fault is noted, and something else of its form stands in its place, as where it can't
+-- be known.
 use Rattle.std.specs.Prelude.{◌≡◌, ℕ, not, List, [], ◌∷◌, ◌++◌, map, Option, Some, None, Ok, Err}
 use Rattle.rt_grammar.specs.declared.at.At.{At}
 use Rattle.rt_grammar.specs.declared.at.Ident.{Ident}
@@ -25,17 +25,16 @@ use Rattle.rt_tree_nodes.specs.declared.statement.Stat.{Stat}
 use Rattle.rt_tree_nodes.specs.declared.statement.Stat.TheVariants as stats
 use Rattle.rt_tree_nodes.specs.declared.value.Value.{Value}
 use Rattle.rt_tree.specs.Statements.{starts_at_zero}
-use Rattle.rt_exprs.specs.declared.fault.CheckFault.{CheckFault}
 use Rattle.rt_exprs.specs.declared.fault.CheckFault.TheVariants as fault
 use Rattle.rt_exprs.specs.declared.scope.Meaning.{Meaning}
 use Rattle.rt_exprs.specs.declared.scope.Meaning.TheVariants as meaning
 use Rattle.rt_exprs.specs.Outcomes.{Outcome}
-use Rattle.rt_check_bodies.specs.Parts.{Part, it_is, ◌>>=◌, number_next, value_or, stat_or, test_or, label_or, mode_or, three_locals, noted_if, noted_twice, with_local, labels_more, numbers_from, labels_in}
+use Rattle.rt_check_bodies.specs.Parts.{Part, it_is, ◌>>=◌, number_next, value_or, stat_or, return_or, noted_known, test_or, label_or, mode_or, three_locals, noted_if, noted_twice, with_local, labels_more, numbers_from, labels_in}
 use Rattle.rt_check_bodies.specs.declared.answer.Answer.{Answer}
 use Rattle.rt_check_bodies.specs.declared.plain.Bounds.{Bounds}
 use Rattle.rt_check_bodies.specs.declared.answer.Answer.TheVariants as answer
 use Rattle.rt_check_bodies.specs.declared.tally.Tally.{Tally}
-use Rattle.rt_check_bodies.specs.Sights.{Names, Sight, declared, within, innermost, with_name, value_in, assignment_in, val_assignment_in, call_in, test_in, label_in, mode_in}
+use Rattle.rt_check_bodies.specs.Sights.{Names, Sight, declared, within, innermost, with_name, value_in, alone_in, nowhere_in, assignment_in, val_assignment_in, call_in, test_in, label_in, mode_in}
 
 -- an expression of which INT is wanted
 abbrev pub int_in : Sight → Expr → Part Value
@@ -49,13 +48,15 @@ abbrev pub return_of : Outcome Value → Outcome Stat
 return_of (Ok x) = Ok (stats.Return (Some x))
 return_of (Err g) = Err g
 
--- RETURN. Where there is no result nothing is wanted of a value, so that none fits.
+-- RETURN. Where there is no result nothing is wanted of a value, so that none fits; where its mode can't be known a value is judged by
+-- itself.
 abbrev pub returned : Answer → Sight → Option Expr → At → Outcome Stat
 returned answer.Nothing s None at = Ok (stats.Return None)
-returned answer.Nothing s (Some e) at = return_of (value_in s e mode.Label)
+returned answer.Nothing s (Some e) at = Err (nowhere_in s e)
 returned (answer.Wanted m) s None at = Err (fault.NoResult at)
 returned (answer.Wanted m) s (Some e) at = return_of (value_in s e m)
-returned answer.Unfit s e at = Ok (stats.Return None)
+returned answer.Unknown s None at = Ok (stats.Return None)
+returned answer.Unknown s (Some e) at = Err (alone_in s e)
 
 abbrev pub goto : Sight → Ident → Part Stat
 goto s n = do l ← label_or (label_in s n); it_is (stats.Goto l)
@@ -126,9 +127,13 @@ noted_in s n t = noted_twice (innermost s.levels) n t
 abbrev pub declared_by : Sight → List LocalStart → Declared
 declared_by s xs = record { sight = s; starts = xs }
 
--- a local whose mode is unfit
-abbrev pub local_unfit : CheckFault → Declared → Local → Part Declared
-local_unfit g d n t = (declared_by (with_ident n.name (meaning.Unfit g) d.sight) d.starts, noted_in d.sight n.name t)
+-- a local whose mode can't be known: its start is judged by itself
+abbrev pub start_alone : Sight → Option Expr → Tally → Tally
+start_alone s None t = t
+start_alone s (Some e) t = noted_known (alone_in s e) t
+
+abbrev pub local_unknown : Declared → Local → Part Declared
+local_unknown d n t = (declared_by (with_ident n.name meaning.Unknown d.sight) d.starts, noted_in d.sight n.name (start_alone d.sight n.start t))
 
 -- a local of a mode and its start, by its number
 abbrev pub placed : ℕ → Mode → Option Value → Declared → Local → Part Declared
@@ -140,9 +145,9 @@ local_fit m d n = do
   k ← number_next
   placed k m x d n
 
--- One local. It isn't seen in its own start. Where its mode is unfit it isn't judged.
+-- One local. It isn't seen in its own start.
 abbrev pub local_more : Outcome Mode → Declared → Local → Part Declared
-local_more (Err g) d n = local_unfit g d n
+local_more (Err g) d n = local_unknown d n
 local_more (Ok m) d n = local_fit m d n
 
 abbrev pub locals_more : Outcome Mode → Declared → List Local → Part Declared
@@ -213,7 +218,7 @@ module _ (r : Answer) where
   one_stat (Simple-F.Assign c e at) s = stat_or (assignment_in s c e)
   one_stat (Simple-F.AssignVal c e at) s = stat_or (val_assignment_in s at c e)
   one_stat (Simple-F.Goto n at) s = goto s n
-  one_stat (Simple-F.Return e at) s = stat_or (returned r s e at)
+  one_stat (Simple-F.Return e at) s = return_or (returned r s e at)
   one_stat (Simple-F.Switch e ns at) s = switch s e ns
   one_stat (Simple-F.Block b at) s = do x ← b s; it_is (stats.Block x)
   one_stat (Simple-F.If bs e at) s = do xs ← branches s [] bs; other ← any_sequence s e; it_is (stats.If xs other)

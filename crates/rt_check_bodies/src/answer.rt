@@ -5,6 +5,6 @@ use rt_modes::Mode;
 pub enum Answer {
     Nothing,
     Wanted(Mode),
-    /// A mode that is unfit: what is returned isn't judged.
-    Unfit,
+    /// A mode that can't be known, since it is unfit: what is returned is judged by itself.
+    Unknown,
 }

@@ -69,7 +69,7 @@ fn add_locals<'a>(
     Ok(())
 }
 
-/// A local; where its mode is unfit it isn't judged.
+/// A local; where its mode can't be known its start is judged by itself.
 fn add_judged<'a>(
     alloc: Global,
     names: &mut Names<'a>,
@@ -83,7 +83,25 @@ fn add_judged<'a>(
 {
     match mode {
         Ok(mode) => add_local(alloc, names, tally, starts, mode, local),
-        Err(fault) => declare(alloc, names, tally, &local.name, Meaning::Unfit(*fault)),
+        Err(_) => {
+            alone(alloc, names, tally, &local.start)?;
+            declare(alloc, names, tally, &local.name, Meaning::Unknown)
+        }
+    }
+}
+
+/// A start of which no mode is known to be wanted.
+fn alone(
+    alloc: Global,
+    names: &Names<'_>,
+    tally: &mut Tally,
+    start: &Option<Expr>,
+) -> Result<(), Memory>
+    ensures { OnOk result (tally.new ≡ spec.start_alone names.now start.now tally.old) }
+{
+    match start {
+        None => Ok(()),
+        Some(start) => tally.note_known(names.alone(alloc, start)),
     }
 }
 

@@ -1,22 +1,23 @@
 //! What the nodes of a body see.
 
-ghost use Rattle.std.specs.Prelude.{◌≡◌, false, [], ◌∷◌, ◌++◌, map, IfOk, OnOk};
+ghost use Rattle.std.specs.Prelude.{◌≡◌, false, [], ◌∷◌, ◌++◌, map, Option, IfOk, OnOk};
 ghost use Rattle.std.specs.Option.{option_copied};
-ghost use Rattle.rt_exprs.specs.Outcomes.{Gives};
+ghost use Rattle.rt_modes.specs.declared.mode.Mode.{Mode};
+ghost use Rattle.rt_tree_nodes.specs.declared.value.Place.{Place};
+ghost use Rattle.rt_exprs.specs.Outcomes.{Outcome, Gives, UnlessMemory};
 ghost use Rattle.rt_exprs.specs.Names.{find};
 ghost use Rattle.rt_exprs.specs.Judging.{target, val_target, alone};
 ghost use Rattle.rt_check_declared.specs.declared.site.Site.TheVariants as site;
-ghost use Rattle.rt_check_declared.specs.Unfit.{unfit_record};
 ghost use Rattle.rt_check_declared.specs.Verdicts.{Answers};
 ghost use Rattle.rt_check_declared.specs.Written.{written as spelt};
 ghost use Rattle.rt_check_bodies.specs.Sights as spec;
 ghost use Rattle.rt_check_bodies.specs.Seen.{names_of, Alike};
 
 use indexmap::{IndexMap, IndexSet};
-use rt_check_declared::{Resolved, Site, find_name, resolve, unfit_record};
+use rt_check_declared::{Resolved, Site, find_name, resolve};
 use rt_exprs::{
-    CheckFault, IndexedRecords, Level, Meaning, Scope, fit, fit_call, fit_condition, fit_target,
-    fit_val_target,
+    CheckFault, IndexedRecords, Level, Meaning, Scope, fit, fit_by_itself, fit_call, fit_condition,
+    fit_nothing, fit_target, fit_val_target,
 };
 use rt_grammar::{At, Ident};
 use rt_modes::Mode;
@@ -30,7 +31,6 @@ use std::marker::Model;
 #[derive(Drop)]
 pub struct Names<'a> {
     modes: &'a IndexedRecords,
-    unfit: &'a [Option<CheckFault>],
     strings: &'a IndexSet<u16>,
     levels: Vec<Level<'a>>,
 }
@@ -46,20 +46,18 @@ impl<'a> Model for Names<'a> {
 
     ghost coded = { Prim.hlevel (codes, trees.the_row.coded) };
 
-    ghost view = { λ n. record { records = n.modes.now.records; unfit = n.unfit.now; strings = n.strings.now.keys; levels = map names_of n.levels.items } };
+    ghost view = { λ n. record { records = n.modes.now.records; strings = n.strings.now.keys; levels = map names_of n.levels.items } };
 }
 
 impl<'a> Names<'a> {
-    /// What the procedures of a module see: its records, of each its fault where it is unfit, the items of its strings, and
-    /// the names of its declarations.
+    /// What the procedures of a module see: its records, the items of its strings, and the names of its declarations.
     pub fn new(
         alloc: Global,
         modes: &'a IndexedRecords,
-        unfit: &'a [Option<CheckFault>],
         strings: &'a IndexSet<u16>,
         level: Level<'a>,
     ) -> Result<Names<'a>, Memory>
-        ensures { IfOk result (λ n. n ≡ record { records = modes.now.records; unfit = unfit.now; strings = strings.now.keys; levels = names_of level.entry ∷ [] }) }
+        ensures { IfOk result (λ n. n ≡ record { records = modes.now.records; strings = strings.now.keys; levels = names_of level.entry ∷ [] }) }
     {
         let Ok(mut levels) = Vec::with_capacity(alloc, 1) else {
             return Err(Memory);
@@ -69,7 +67,6 @@ impl<'a> Names<'a> {
         };
         Ok(Names {
             modes,
-            unfit,
             strings,
             levels,
         })
@@ -140,14 +137,19 @@ impl<'a> Names<'a> {
     }
 
     /// The place to which a chain assigns, and its mode.
-    fn target(&self, alloc: Global, to: &Chain) -> Result<(Place, &Mode), CheckFault>
+    fn target(&self, alloc: Global, to: &Chain) -> Result<(Option<Place>, &Mode), CheckFault>
         ensures { Gives (λ x. (x.0, x.1.now)) result (target (spec.scope_of self.now) to.now) }
     {
         fit_target(alloc, to, &self.scope())
     }
 
     /// The same of what VAL, which stands at `at`, and a chain name.
-    fn val_target(&self, alloc: Global, at: At, to: &Chain) -> Result<(Place, &Mode), CheckFault>
+    fn val_target(
+        &self,
+        alloc: Global,
+        at: At,
+        to: &Chain,
+    ) -> Result<(Option<Place>, &Mode), CheckFault>
         ensures { Gives (λ x. (x.0, x.1.now)) result (val_target (spec.scope_of self.now) at to.now) }
     {
         fit_val_target(alloc, at, to, &self.scope())
@@ -157,9 +159,7 @@ impl<'a> Names<'a> {
     pub fn assignment(&self, alloc: Global, to: &Chain, from: &Expr) -> Result<Stat, CheckFault>
         ensures { Gives (λ x. x) result (spec.assignment_in self.now to.now from.now) }
     {
-        let (place, mode) = self.target(alloc, to)?;
-        let value = self.value(alloc, from, mode)?;
-        Ok(Stat::Assign(place, value))
+        self.assigned(alloc, self.target(alloc, to), from)
     }
 
     /// An assignment to what VAL, which stands at `at`, and a chain name.
@@ -172,9 +172,42 @@ impl<'a> Names<'a> {
     ) -> Result<Stat, CheckFault>
         ensures { Gives (λ x. x) result (spec.val_assignment_in self.now at to.now from.now) }
     {
-        let (place, mode) = self.val_target(alloc, at, to)?;
-        let value = self.value(alloc, from, mode)?;
-        Ok(Stat::Assign(place, value))
+        self.assigned(alloc, self.val_target(alloc, at, to), from)
+    }
+
+    /// An assignment to a place: its mode is wanted of the expression. Where there is none, the expression is judged by itself.
+    fn assigned(
+        &self,
+        alloc: Global,
+        to: Result<(Option<Place>, &Mode), CheckFault>,
+        from: &Expr,
+    ) -> Result<Stat, CheckFault>
+        ensures { (t : Outcome (Option Place × Mode)) → Gives (λ x. (x.0, x.1.now)) to.entry t → Gives (λ x. x) result (spec.assigned_in self.now t from.now) }
+    {
+        match to {
+            Ok((place, mode)) => {
+                let value = self.value(alloc, from, mode)?;
+                match place {
+                    Some(place) => Ok(Stat::Assign(place, value)),
+                    None => Err(CheckFault::Unknown),
+                }
+            }
+            Err(fault) => Err(fault.sooner(self.alone(alloc, from))),
+        }
+    }
+
+    /// The fault of an expression of which no mode is known to be wanted; that of what can't be known where none stands.
+    pub fn alone(&self, alloc: Global, expr: &Expr) -> CheckFault
+        ensures { UnlessMemory result (result ≡ spec.alone_in self.now expr.now) }
+    {
+        fit_by_itself(alloc, expr, &self.scope())
+    }
+
+    /// The fault of an expression where nothing is wanted.
+    pub fn nothing(&self, alloc: Global, expr: &Expr) -> CheckFault
+        ensures { UnlessMemory result (result ≡ spec.nowhere_in self.now expr.now) }
+    {
+        fit_nothing(alloc, expr, &self.scope())
     }
 
     fn called(&self, alloc: Global, chain: &Chain) -> Result<Value, CheckFault>
@@ -211,7 +244,7 @@ impl<'a> Names<'a> {
         label_by(name.at, self.meaning(name.name.as_slice()))
     }
 
-    /// The mode that is written for a parameter, a local or a result, unfit records aside.
+    /// The mode that is written for a parameter, a local or a result.
     fn resolved(&self, alloc: Global, written: &WrittenMode) -> Result<Resolved, CheckFault>
         ensures { Answers (λ r. r) result (spelt (find (spec.scope_of self.now)) written.now site.Variable) }
     {
@@ -223,27 +256,17 @@ impl<'a> Names<'a> {
         ensures { Gives (λ m. m) result (spec.mode_in self.now at written.now) }
     {
         let resolved = self.resolved(alloc, written)?;
-        self.variable_by(at, resolved)
+        variable_by(at, resolved)
     }
+}
 
-    /// The fault of the first unfit record to which a mode leads.
-    fn unfit_record(&self, mode: &Mode) -> Option<CheckFault>
-        ensures { result ≡ unfit_record self.now.unfit mode.now }
-    {
-        unfit_record(self.unfit, mode)
-    }
-
-    /// The mode of a variable, which is written at `at`.
-    fn variable_by(&self, at: At, resolved: Resolved) -> Result<Mode, CheckFault>
-        ensures { Gives (λ m. m) result (spec.variable_by self.now.unfit at resolved) }
-    {
-        match resolved {
-            Resolved::Mode(mode) => match self.unfit_record(&mode) {
-                None => Ok(mode),
-                Some(fault) => Err(fault),
-            },
-            Resolved::BadLength => Err(CheckFault::LeftOut { form: 3, at }),
-        }
+/// The mode of a variable, which is written at `at`.
+fn variable_by(at: At, resolved: Resolved) -> Result<Mode, CheckFault>
+    ensures { Gives (λ m. m) result (spec.variable_by at resolved) }
+{
+    match resolved {
+        Resolved::Mode(mode) => Ok(mode),
+        Resolved::BadLength => Err(CheckFault::LeftOut { form: 3, at }),
     }
 }
 

@@ -49,7 +49,7 @@ fn add_group<'a>(
     Ok(())
 }
 
-/// A parameter; where its mode is unfit it isn't judged.
+/// A parameter; where its mode is unfit it can't be known.
 fn add_judged<'a>(
     alloc: Global,
     level: &mut Level<'a>,
@@ -61,7 +61,7 @@ fn add_judged<'a>(
 {
     match mode {
         Ok(mode) => add_parameter(alloc, level, tally, mode, name),
-        Err(fault) => declare_name(level, tally, name, Meaning::Unfit(*fault)),
+        Err(_) => declare_name(level, tally, name, Meaning::Unknown),
     }
 }
 
@@ -94,7 +94,7 @@ pub fn answer_of(
         None => Ok(Answer::Nothing),
         Some(written) => match tally.mode_or(names.mode(alloc, at, written))? {
             Ok(mode) => Ok(Answer::Wanted(mode)),
-            Err(_) => Ok(Answer::Unfit),
+            Err(_) => Ok(Answer::Unknown),
         },
     }
 }

@@ -134,13 +134,16 @@ pub fn returned(
     match answer {
         Answer::Nothing => match value {
             None => Ok(Stat::Return(None)),
-            Some(value) => return_of(names.value(alloc, value, &Mode::Label)),
+            Some(value) => Err(names.nothing(alloc, value)),
         },
         Answer::Wanted(mode) => match value {
             None => Err(CheckFault::NoResult(at)),
             Some(value) => return_of(names.value(alloc, value, mode)),
         },
-        Answer::Unfit => Ok(Stat::Return(None)),
+        Answer::Unknown => match value {
+            None => Ok(Stat::Return(None)),
+            Some(value) => Err(names.alone(alloc, value)),
+        },
     }
 }
 

@@ -1,8 +1,7 @@
 //! A procedure's brick.
 
 ghost use Rattle.std.specs.Prelude.{◌≡◌, [], IfOk, IfErr, OnOk};
-ghost use Rattle.rt_exprs.specs.Outcomes.{Settles, IsAnswered};
-ghost use Rattle.rt_exprs.specs.Outcomes.{UnlessMemory};
+ghost use Rattle.rt_exprs.specs.Outcomes.{IsLeast, IsAnswered, UnlessMemory};
 ghost use Rattle.rt_check_declared.specs.Verdicts.{IsIn, GatheredCounts};
 ghost use Rattle.rt_check_bodies.specs.Procedures as spec;
 ghost use Rattle.rt_bricks.specs.Counted as counted;
@@ -39,8 +38,8 @@ pub fn judge_procedure<'a>(
     ensures fit { IfOk result (λ _. spec.faults names.old brick.now ≡ []) }
     // Where none stands it is answered, unless memory runs out.
     ensures only { spec.faults names.old brick.now ≡ [] → IsAnswered (spec.procedure names.old brick.now) result }
-    // A fault stands, and counts of all that stand.
-    ensures fault { IfErr result (Settles (Stands names.old brick.now)) }
+    // A fault stands, and counts of all that stand, unless memory runs out.
+    ensures fault { IfErr result (λ g. UnlessMemory g (IsLeast (Stands names.old brick.now) g)) }
     ensures kept { IfErr result (λ g. UnlessMemory g (names.new ≡ names.old)) }
     ensures kept_ok { OnOk result (names.new ≡ names.old) }
 {
@@ -66,7 +65,7 @@ fn finished(tally: Tally, brick: &ProcedureBrick, body: Body) -> Result<ProcBody
     ensures tree { IfOk result (λ made. made ≡ spec.proc_by brick.now (body, tally)) }
     ensures fit { IfOk result (λ _. tally.faults ≡ []) }
     ensures only { tally.faults ≡ [] → IsAnswered (spec.proc_by brick.now (body, tally)) result }
-    ensures fault { IfErr result (Settles (λ g. IsIn g tally.faults)) }
+    ensures fault { IfErr result (IsLeast (λ g. IsIn g tally.faults)) }
 {
     match counted(&tally) {
         Some(fault) => Err(fault),

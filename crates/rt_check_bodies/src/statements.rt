@@ -118,7 +118,7 @@ fn statement<'a>(
             tally.stat_or(names.val_assignment(alloc, *at, to, from))
         }
         Simple::Goto(name, _) => goto(names, tally, name),
-        Simple::Return(value, at) => tally.stat_or(returned(alloc, names, answer, value, *at)),
+        Simple::Return(value, at) => tally.return_or(returned(alloc, names, answer, value, *at)),
         Simple::Switch(value, labels, _) => switch(alloc, names, tally, value, labels.as_slice()),
         Simple::Block(inner, _) => {
             let inner = body(alloc, names, tally, answer, inner)?;

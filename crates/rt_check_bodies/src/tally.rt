@@ -1,6 +1,7 @@
 //! What has been counted, and the faults that have been noted.
 
-ghost use Rattle.std.specs.Prelude.{◌≡◌, ℕ, IfOk, OnOk};
+ghost use Rattle.std.specs.Prelude.{◌≡◌, ◌≢◌, ℕ, IfOk, OnOk};
+ghost use Rattle.rt_exprs.specs.declared.fault.CheckFault.TheVariants as kinds;
 ghost use Rattle.rt_exprs.specs.Outcomes.{Outcome, Gives};
 ghost use Rattle.rt_check_bodies.specs.Parts as spec;
 ghost use Rattle.rt_check_bodies.specs.Parts.{Gave};
@@ -24,6 +25,18 @@ impl Tally {
         ensures { OnOk result (self.new ≡ spec.noted fault self.old) }
     {
         self.faults.push(fault)
+    }
+
+    /// Notes a fault; what can't be known is none, and want of memory ends all.
+    pub fn note_known(&mut self, fault: CheckFault) -> Result<(), Memory>
+        ensures noted { OnOk result (self.new ≡ spec.noted_known fault self.old) }
+        ensures ended { OnOk result (fault ≢ kinds.Memory) }
+    {
+        match fault {
+            CheckFault::Memory => Err(Memory),
+            CheckFault::Unknown => Ok(()),
+            _ => self.note(fault),
+        }
     }
 
     pub fn note_if(&mut self, stands: bool, fault: CheckFault) -> Result<(), Memory>
@@ -73,9 +86,8 @@ impl Tally {
     {
         match found {
             Ok(x) => Ok(x),
-            Err(CheckFault::Memory) => Err(Memory),
             Err(fault) => {
-                self.note(fault)?;
+                self.note_known(fault)?;
                 Ok(other)
             }
         }
@@ -89,6 +101,13 @@ impl Tally {
 
     pub fn stat_or(&mut self, found: Result<Stat, CheckFault>) -> Result<Stat, Memory>
         ensures { (o : Outcome Stat) → Gives (λ x. x) found o → IfOk result (λ x. Gave x self.new (spec.stat_or o self.old)) }
+    {
+        self.found_or(Stat::Call(Value::Number(0)), found)
+    }
+
+    /// The same of a RETURN.
+    pub fn return_or(&mut self, found: Result<Stat, CheckFault>) -> Result<Stat, Memory>
+        ensures { (o : Outcome Stat) → Gives (λ x. x) found o → IfOk result (λ x. Gave x self.new (spec.return_or o self.old)) }
     {
         self.found_or(Stat::Return(None), found)
     }

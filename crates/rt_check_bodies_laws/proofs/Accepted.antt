@@ -56,10 +56,10 @@ use Rattle.rt_tree.specs.Statements.{Sight as Seen, Part as Fitting, Marked, Tes
 use Rattle.rt_exprs_laws.specs.Agreeing.{IsValue}
 use Rattle.rt_syntax_exprs.specs.Joins.{joins_two}
 use Rattle.rt_exprs_laws.proofs.Passing.{passed_is_value}
-use Rattle.rt_exprs_laws.proofs.Judged.{value_judged, target_judged, val_judged, call_judged, test_judged, int_judged, none_judged}
+use Rattle.rt_exprs_laws.proofs.Judged.{value_judged, target_judged, val_judged, call_judged, test_judged, int_judged}
 use Rattle.rt_check_bodies.specs.declared.tally.Tally.{Tally}
-use Rattle.rt_check_bodies.specs.Parts.{noted_if, next_local, three_locals, labels_in, label_or, stat_or, test_or, mode_or}
-use Rattle.rt_check_bodies.specs.Sights.{Sight, within, scope_of, value_in, assignment_in, val_assignment_in, call_in, test_in, label_in, mode_in}
+use Rattle.rt_check_bodies.specs.Parts.{found_or, noted_if, next_local, three_locals, labels_in, label_or, test_or, mode_or}
+use Rattle.rt_check_bodies.specs.Sights.{Sight, within, scope_of, assigning, assigned_in, value_in, assignment_in, val_assignment_in, call_in, test_in, label_in, mode_in}
 use Rattle.rt_check_bodies.specs.declared.answer.Answer.{Answer}
 use Rattle.rt_check_bodies.specs.declared.answer.Answer.TheVariants as answer
 use Rattle.rt_check_bodies.specs.declared.plain.Bounds.{Bounds}
@@ -67,9 +67,11 @@ use Rattle.rt_bricks_laws.specs.Bodies.{sum, simple_labels, simple_stands, all, 
 use Rattle.rt_check_bodies.specs.Statements as spec
 use Rattle.rt_check_bodies.specs.Statements.{Line, Declared, JudgedStat, JudgedBody, JudgedBranch, labels_at, before, declared_by, declarations, line_more, locals_more, local_more, local_fit, placed, start_in, with_ident, noted_in, branches, any_sequence, sequence, bounds_in, variable_of, for_loop, to_loop, int_in, any_int_in, goto, switch, returned, return_of}
 use Rattle.rt_check_bodies_laws.proofs.Growing.{Pre, pre_then, pre_none, Grew, grew_same, grew_then, Growing, BranchesGrow, grow_found, grow_placed, grow_locals, grow_declarations, grow_sequence, grow_branches, grow_for, grow_to, grow_goto, grow_switch, grow_int, grow_any_int, grow_three, grow_labels_in}
-use Rattle.rt_check_bodies_laws.specs.Held.{Holds, EntryHolds, ResultIs}
-use Rattle.rt_check_bodies_laws.proofs.Holding.{holds_within, holds_named, declared_holds, agrees, label_seen}
-use Rattle.rt_check_bodies_laws.proofs.Sequences.{settled, one_is_there, one_longer, pre_length, pre_get, small_rest, Fine, fine_before, Goes, Known, lines, lines_grow, total, sequence_fits}
+use Rattle.rt_check_bodies_laws.specs.Held.{EntryHolds, ResultIs}
+use Rattle.rt_check_bodies_laws.proofs.Knowing.{Certain}
+use Rattle.rt_check_bodies_laws.proofs.Certain.{value_certain, assign_certain, assign_val_certain, call_in_certain, test_certain, label_certain, returned_certain}
+use Rattle.rt_check_bodies_laws.proofs.Holding.{Shown, shown_within, shown_named, shown_knows, declared_holds, agrees, label_seen}
+use Rattle.rt_check_bodies_laws.proofs.Sequences.{settled, mode_found, one_is_there, one_longer, pre_length, pre_get, small_rest, Fine, fine_before, Goes, Known, lines, lines_grow, total, sequence_fits}
 
 -- ---- answers
 
@@ -84,6 +86,29 @@ bound (Err g) f y e = absurd cc
 
 ok_stat : (a b : Stat) (o : Outcome Stat) → o ≡ Ok a → o ≡ Ok b → a ≡ b
 ok_stat a b o e h = cc
+
+-- an assignment that is found: its place, the place's mode and the value
+pub record Assigned (s : Sight) (t : Outcome (Option Place × Mode)) (e : Expr) (x : Stat) : Type 0 where
+  pub place : Place
+  pub mode : Mode
+  pub value : Value
+  pub target : t ≡ Ok (Some place, mode)
+  pub given : value_in s e mode ≡ Ok value
+  pub is : stats.Assign place value ≡ x
+
+abbrev with_mode : Mode → Option Place → Outcome (Option Place × Mode)
+with_mode m o = Ok (o, m)
+
+by_place : (o : Option Place) (v : Value) (x : Stat) → assigning o v ≡ Ok x → (p : Place) × (o ≡ Some p) × (stats.Assign p v ≡ x)
+by_place None v x h = absurd cc
+by_place (Some p) v x h = (p, refl, ok_stat (stats.Assign p v) x (Ok (stats.Assign p v)) refl h)
+
+pub assigned_by : (s : Sight) (t : Outcome (Option Place × Mode)) (e : Expr) (x : Stat) → assigned_in s t e ≡ Ok x → Assigned s t e x
+assigned_by s (Ok q) e x h =
+    let y = bound (value_in s e q.1) (assigning q.0) x h in
+    let z = by_place q.0 y.value x y.gives in
+    record { place = z.0; mode = q.1; value = y.value; target = ap (λ (o : Option Place). with_mode q.1 o) z.1; given = y.is; is = z.2 }
+assigned_by s (Err g) e x h = absurd cc
 
 both_true : (a b : Bool) → a ≡ true → b ≡ true → a && b ≡ true
 both_true a b e h = rw (e, h) refl
@@ -176,39 +201,41 @@ module _ (c : Scope) (small : length c.locals < 65536) (standing : list_all (loc
   module _ (r : Answer) where
     pub record StatFits (p : JudgedStat) (inner : ℕ) : Type 0 where
       pub grows : (s : Sight) → Growing (p s)
-      pub fits : (s : Sight) (seen : Seen) (t : Tally) → Holds c s seen → ResultIs r seen.result → Fine c (p s t).1 → t.labels + inner < 65536
+      pub fits : (s : Sight) (seen : Seen) (t : Tally) → Shown c s seen → ResultIs r seen.result → Fine c (p s t).1 → t.labels + inner < 65536
           → Goes c (stat_part c (p s t).0) seen t (p s t).1 × ((p s t).1.labels ≡ t.labels + inner)
 
     pub record BodyFits (p : JudgedBody) (inner : ℕ) : Type 0 where
       pub grows : (s : Sight) → Growing (p s)
-      pub fits : (s : Sight) (seen : Seen) (t : Tally) → Holds c s seen → ResultIs r seen.result → Fine c (p s t).1 → t.labels + inner < 65536
+      pub fits : (s : Sight) (seen : Seen) (t : Tally) → Shown c s seen → ResultIs r seen.result → Fine c (p s t).1 → t.labels + inner < 65536
           → Goes c (body_part c (p s t).0) seen t (p s t).1 × ((p s t).1.labels ≡ t.labels + inner)
 
     pub record BranchFits (p : JudgedBranch) (inner : ℕ) : Type 0 where
       pub grows : (s : Sight) → Growing (p s)
-      pub fits : (s : Sight) (seen : Seen) (t : Tally) → Holds c s seen → ResultIs r seen.result → Fine c (p s t).1 → t.labels + inner < 65536
+      pub fits : (s : Sight) (seen : Seen) (t : Tally) → Shown c s seen → ResultIs r seen.result → Fine c (p s t).1 → t.labels + inner < 65536
           → Goes c (branch_part c (p s t).0) seen t (p s t).1 × ((p s t).1.labels ≡ t.labels + inner)
 
     -- ---- one found statement, after which the tally is as it was
 
     pub record Alone (o : Outcome Stat) (seen : Seen) : Type 0 where
+      pub certain : Certain o
       pub fits : (x : Stat) → o ≡ Ok x → (t : Tally) → Goes c (stat_part c x) seen t t
 
-    found_fits : (o : Sight → Outcome Stat) → ((s : Sight) (seen : Seen) → Holds c s seen → ResultIs r seen.result → Alone (o s) seen) → StatFits (λ s. stat_or (o s)) 0
-    found_fits o h = record {
-      grows = λ s t. grow_found (stats.Return None) (o s) t;
+    found_fits : (other : Stat) (o : Sight → Outcome Stat) → ((s : Sight) (seen : Seen) → Shown c s seen → ResultIs r seen.result → Alone (o s) seen) → StatFits (λ s. found_or other (o s)) 0
+    found_fits other o h = record {
+      grows = λ s t. grow_found other (o s) t;
       fits = λ s seen t k q f b.
-          let z = settled (stats.Return None) (o s) t f.none in (
+          let z = settled other (o s) t (h s seen k q).certain f.none in (
             ap (λ (y : Stat × Tally). stat_part c y.0 seen (next_by t.labels (length t.locals))) z.gives ∙ (h s seen k q).fits z.value z.is t ∙ sym (ap (λ (y : Stat × Tally). Some (next_by y.1.labels (length y.1.locals))) z.gives),
             ap (λ (y : Stat × Tally). y.1.labels) z.gives ∙ omega arith,
           );
     }
 
-    call_alone : (h : Chain) (s : Sight) (seen : Seen) → Holds c s seen → Alone (call_in s h) seen
+    call_alone : (h : Chain) (s : Sight) (seen : Seen) → Shown c s seen → Alone (call_in s h) seen
     call_alone h s seen k = record {
+      certain = call_in_certain s (shown_knows c s seen k) h;
       fits = λ x e t.
           let z = bound (alone (scope_of s) h) (λ v. Ok (stats.Call v)) x e in
-          let i = call_judged (scope_of s) c (agrees c s seen k) h z.value z.is in
+          let i = call_judged (scope_of s) c (agrees c s seen k.holds) h z.value z.is in
           subst (λ (y : Stat). Goes c (stat_part c y) seen t t) (ok_stat (stats.Call z.value) x (Ok (stats.Call z.value)) refl z.gives)
           (ap (λ (p : Fitting). p seen (next_by t.labels (length t.locals))) (call_part z.value) ∙ rw i.1 refl);
     }
@@ -216,52 +243,53 @@ module _ (c : Scope) (small : length c.locals < 65536) (standing : list_all (loc
     assigned_goes : (p : Place) (m : Mode) (v : Value) (seen : Seen) (t : Tally) → with (placed_in c p).found assigned_mode ≡ Some m → suits m (valued c v) ≡ true → Goes c (stat_part c (stats.Assign p v)) seen t t
     assigned_goes p m v seen t a h = ap (λ (q : Fitting). q seen (next_by t.labels (length t.locals))) (assign_part p v) ∙ rw (a, h) refl
 
-    assign_alone : (h : Chain) (e : Expr) (s : Sight) (seen : Seen) → Holds c s seen → Alone (assignment_in s h e) seen
+    assign_alone : (h : Chain) (e : Expr) (s : Sight) (seen : Seen) → Shown c s seen → Alone (assignment_in s h e) seen
     assign_alone h e s seen k = record {
+      certain = assign_certain s (shown_knows c s seen k) h e;
       fits = λ x q t.
-          let z = bound (target (scope_of s) h) (λ p. value_in s e p.1 >>= λ v. Ok (stats.Assign p.0 v)) x q in
-          let y = bound (value_in s e z.value.1) (λ v. Ok (stats.Assign z.value.0 v)) x z.gives in
-          let may = target_judged (scope_of s) c (agrees c s seen k) h z.value z.is in
-          let suit = value_judged (scope_of s) c (agrees c s seen k) e z.value.1 y.value may.1 y.is in
-          subst (λ (w : Stat). Goes c (stat_part c w) seen t t) (ok_stat (stats.Assign z.value.0 y.value) x (Ok (stats.Assign z.value.0 y.value)) refl y.gives) (assigned_goes z.value.0 z.value.1 y.value seen t may.0 suit);
+          let z = assigned_by s (target (scope_of s) h) e x q in
+          let may = target_judged (scope_of s) c (agrees c s seen k.holds) h (z.place, z.mode) z.target in
+          let suit = value_judged (scope_of s) c (agrees c s seen k.holds) e z.mode z.value may.1 z.given in
+          subst (λ (w : Stat). Goes c (stat_part c w) seen t t) z.is (assigned_goes z.place z.mode z.value seen t may.0 suit);
     }
 
-    val_alone : (h : Chain) (e : Expr) (at : At) (s : Sight) (seen : Seen) → Holds c s seen → Alone (val_assignment_in s at h e) seen
+    val_alone : (h : Chain) (e : Expr) (at : At) (s : Sight) (seen : Seen) → Shown c s seen → Alone (val_assignment_in s at h e) seen
     val_alone h e at s seen k = record {
+      certain = assign_val_certain s (shown_knows c s seen k) at h e;
       fits = λ x q t.
-          let z = bound (val_target (scope_of s) at h) (λ p. value_in s e p.1 >>= λ v. Ok (stats.Assign p.0 v)) x q in
-          let y = bound (value_in s e z.value.1) (λ v. Ok (stats.Assign z.value.0 v)) x z.gives in
-          let may = val_judged (scope_of s) c (agrees c s seen k) at h z.value z.is in
-          let suit = value_judged (scope_of s) c (agrees c s seen k) e z.value.1 y.value may.1 y.is in
-          subst (λ (w : Stat). Goes c (stat_part c w) seen t t) (ok_stat (stats.Assign z.value.0 y.value) x (Ok (stats.Assign z.value.0 y.value)) refl y.gives) (assigned_goes z.value.0 z.value.1 y.value seen t may.0 suit);
+          let z = assigned_by s (val_target (scope_of s) at h) e x q in
+          let may = val_judged (scope_of s) c (agrees c s seen k.holds) at h (z.place, z.mode) z.target in
+          let suit = value_judged (scope_of s) c (agrees c s seen k.holds) e z.mode z.value may.1 z.given in
+          subst (λ (w : Stat). Goes c (stat_part c w) seen t t) z.is (assigned_goes z.place z.mode z.value seen t may.0 suit);
     }
 
     returned_value : (o : Outcome Value) (x : Stat) → return_of o ≡ Ok x → (v : Value) × (o ≡ Ok v) × (stats.Return (Some v) ≡ x)
     returned_value (Ok v) x e = (v, refl, ok_stat (stats.Return (Some v)) x (Ok (stats.Return (Some v))) refl e)
     returned_value (Err g) x e = absurd cc
 
-    return_by : (a : Answer) (e : Option Expr) (at : At) (s : Sight) (seen : Seen) (result : Option Mode) → seen.result ≡ result → Holds c s seen → ResultIs a result → Alone (returned a s e at) seen
+    return_by : (a : Answer) (e : Option Expr) (at : At) (s : Sight) (seen : Seen) (result : Option Mode) → seen.result ≡ result → Shown c s seen → ResultIs a result → Alone (returned a s e at) seen
     return_by answer.Nothing None at s seen None p k q = record {
+      certain = returned_certain s (shown_knows c s seen k) answer.Nothing None q None at;
       fits = λ x e t.
           subst (λ (w : Stat). Goes c (stat_part c w) seen t t) (ok_stat (stats.Return None) x (Ok (stats.Return None)) refl e)
           (ap (λ (w : Fitting). w seen (next_by t.labels (length t.locals))) nothing_part ∙ rw p refl);
     }
     return_by answer.Nothing (Some e) at s seen None p k q = record {
-      fits = λ x h t.
-          let z = returned_value (value_in s e mode.Label) x h in
-          absurd (none_judged (scope_of s) c (agrees c s seen k) e z.0 z.1);
+      certain = returned_certain s (shown_knows c s seen k) answer.Nothing None q (Some e) at;
+      fits = λ x h t. absurd cc;
     }
     return_by answer.Nothing e at s seen (Some m) p k q = absurd q
-    return_by (answer.Wanted m) None at s seen (Some n) p k q = record { fits = λ x h t. absurd cc }
+    return_by (answer.Wanted m) None at s seen (Some n) p k q = record { certain = refl; fits = λ x h t. absurd cc }
     return_by (answer.Wanted m) (Some e) at s seen (Some n) p k q = record {
+      certain = returned_certain s (shown_knows c s seen k) (answer.Wanted m) (Some n) q (Some e) at;
       fits = λ x h t.
           let z = returned_value (value_in s e m) x h in
-          let suit : suits n (valued c z.0) ≡ true = subst (λ (w : Mode). suits w (valued c z.0) ≡ true) q.0 (value_judged (scope_of s) c (agrees c s seen k) e m z.0 q.1 z.1) in
+          let suit : suits n (valued c z.0) ≡ true = subst (λ (w : Mode). suits w (valued c z.0) ≡ true) q.0 (value_judged (scope_of s) c (agrees c s seen k.holds) e m z.0 q.1 z.1) in
           subst (λ (w : Stat). Goes c (stat_part c w) seen t t) z.2 (ap (λ (w : Fitting). w seen (next_by t.labels (length t.locals))) (value_part z.0) ∙ rw (p, suit) refl);
     }
     return_by (answer.Wanted m) e at s seen None p k q = absurd q
-    return_by answer.Unfit e at s seen None p k q = absurd q
-    return_by answer.Unfit e at s seen (Some m) p k q = absurd q
+    return_by answer.Unknown e at s seen None p k q = absurd q
+    return_by answer.Unknown e at s seen (Some m) p k q = absurd q
 
     -- ---- values and labels that are found
 
@@ -270,17 +298,17 @@ module _ (c : Scope) (small : length c.locals < 65536) (standing : list_all (loc
       pub gives : int_in s e t ≡ (value, t)
       pub is_one : tree.is_int_value c value ≡ true
 
-    int_found : (s : Sight) (seen : Seen) (e : Expr) (t : Tally) → Holds c s seen → (int_in s e t).1.faults ≡ [] → Int s e t
+    int_found : (s : Sight) (seen : Seen) (e : Expr) (t : Tally) → Shown c s seen → (int_in s e t).1.faults ≡ [] → Int s e t
     int_found s seen e t k f =
-        let z = settled (values.Number 0) (value_in s e mode.Int) t f in
-        record { value = z.value; gives = z.gives; is_one = int_judged (scope_of s) c (agrees c s seen k) e z.value z.is }
+        let z = settled (values.Number 0) (value_in s e mode.Int) t (value_certain s (shown_knows c s seen k) e mode.Int) f in
+        record { value = z.value; gives = z.gives; is_one = int_judged (scope_of s) c (agrees c s seen k.holds) e z.value z.is }
 
     pub record AnyInt (s : Sight) (e : Option Expr) (t : Tally) : Type 0 where
       pub value : Option Value
       pub gives : any_int_in s e t ≡ (value, t)
       pub is_one : tree.is_int_step c value ≡ true
 
-    any_int_found : (s : Sight) (seen : Seen) (e : Option Expr) (t : Tally) → Holds c s seen → (any_int_in s e t).1.faults ≡ [] → AnyInt s e t
+    any_int_found : (s : Sight) (seen : Seen) (e : Option Expr) (t : Tally) → Shown c s seen → (any_int_in s e t).1.faults ≡ [] → AnyInt s e t
     any_int_found s seen None t k f = record { value = None; gives = refl; is_one = refl }
     any_int_found s seen (Some e) t k f =
         let z = int_found s seen e t k f in
@@ -290,8 +318,8 @@ module _ (c : Scope) (small : length c.locals < 65536) (standing : list_all (loc
     goto_fits n = record {
       grows = λ s t. grow_goto s n t;
       fits = λ s seen t k q f b.
-          let z = settled 0 (label_in s n) t f.none in
-          let sight : sees seen.seen z.value ≡ true = label_seen c s seen n z.value k z.is in (
+          let z = settled 0 (label_in s n) t (label_certain s n) f.none in
+          let sight : sees seen.seen z.value ≡ true = label_seen c s seen n z.value k.holds z.is in (
             ap (λ (y : ℕ × Tally). stat_part c (stats.Goto y.0) seen (next_by t.labels (length t.locals))) z.gives
                 ∙ ap (λ (p : Fitting). p seen (next_by t.labels (length t.locals))) (goto_part z.value) ∙ rw sight refl ∙ sym (ap (λ (y : ℕ × Tally). Some (next_by y.1.labels (length y.1.locals))) z.gives),
             ap (λ (y : ℕ × Tally). y.1.labels) z.gives ∙ omega arith,
@@ -304,18 +332,18 @@ module _ (c : Scope) (small : length c.locals < 65536) (standing : list_all (loc
       pub seen_all : all_seen seen.seen labels ≡ true
       pub as_many : length labels ≡ length ns
 
-    labels_found : (s : Sight) (seen : Seen) (done : List ℕ) (ns : List Ident) (t : Tally) → Holds c s seen → (labels_in s done ns t).1.faults ≡ [] → LabelsFound s seen done ns t
+    labels_found : (s : Sight) (seen : Seen) (done : List ℕ) (ns : List Ident) (t : Tally) → Shown c s seen → (labels_in s done ns t).1.faults ≡ [] → LabelsFound s seen done ns t
     labels_found s seen done [] t k f = record { labels = []; gives = ap (λ (z : List ℕ). (z, t)) (sym (append-nil done)); seen_all = refl; as_many = refl }
     labels_found s seen done (n ∷ ns) t k f =
         let u : ℕ × Tally = label_or (label_in s n) t in
         let none : u.1.faults ≡ [] = pre_none u.1.faults _ f (grow_labels_in s (done ++ u.0 ∷ []) ns u.1).faults in
-        let z = settled 0 (label_in s n) t none in
+        let z = settled 0 (label_in s n) t (label_certain s n) none in
         let moved : labels_in s done (n ∷ ns) t ≡ labels_in s (done ++ z.value ∷ []) ns t = ap (λ (y : ℕ × Tally). labels_in s (done ++ y.0 ∷ []) ns y.1) z.gives in
         let go = labels_found s seen (done ++ z.value ∷ []) ns t k (sym (ap (λ (y : List ℕ × Tally). y.1.faults) moved) ∙ f) in
         record {
           labels = z.value ∷ go.labels;
           gives = moved ∙ go.gives ∙ ap (λ (l : List ℕ). (l, t)) (append_assoc done (z.value ∷ []) go.labels);
-          seen_all = both_true (sees seen.seen z.value) (all_seen seen.seen go.labels) (label_seen c s seen n z.value k z.is) go.seen_all;
+          seen_all = both_true (sees seen.seen z.value) (all_seen seen.seen go.labels) (label_seen c s seen n z.value k.holds z.is) go.seen_all;
           as_many = ap suc go.as_many;
         }
 
@@ -371,7 +399,7 @@ module _ (c : Scope) (small : length c.locals < 65536) (standing : list_all (loc
       pub labels : result.1.labels ≡ t.labels + inners bs
       pub as_many : length made ≡ length bs
 
-    branches_fit : (bs : List Branching) (s : Sight) (seen : Seen) (done : List BranchMade) (t : Tally) → Holds c s seen → ResultIs r seen.result → Fine c (branches s done (parts bs) t).1 → t.labels + inners bs < 65536
+    branches_fit : (bs : List Branching) (s : Sight) (seen : Seen) (done : List BranchMade) (t : Tally) → Shown c s seen → ResultIs r seen.result → Fine c (branches s done (parts bs) t).1 → t.labels + inners bs < 65536
         → BranchesFit bs seen done t (branches s done (parts bs) t)
     branches_fit [] s seen done t k q f b = record { made = []; is = sym (append-nil done); goes = refl; labels = omega arith; as_many = refl }
     branches_fit (x ∷ bs) s seen done t k q f b =
@@ -411,12 +439,12 @@ module _ (c : Scope) (small : length c.locals < 65536) (standing : list_all (loc
       fits = λ s seen t k q f b.
           let u : Test × Tally = test_or (test_in s d) t in
           let none : u.1.faults ≡ [] = pre_none u.1.faults _ f.none (grow_sequence s (lines c r ks) (lines_grow c r ks) u.1).faults in
-          let z = settled (tests.Compare rel.Equal (values.Number 0) (values.Number 0)) (test_in s d) t none in
+          let z = settled (tests.Compare rel.Equal (values.Number 0) (values.Number 0)) (test_in s d) t (test_certain s (shown_knows c s seen k) d) none in
           let back : (List Labelled × Tally) = sequence s (lines c r ks) t in
           let moved : sequence s (lines c r ks) u.1 ≡ back = ap (λ (y : Test × Tally). sequence s (lines c r ks) y.1) z.gives in
           let fine : Fine c back.1 = subst (λ (y : List Labelled × Tally). Fine c y.1) moved f in
           let go = sequence_fits c r ks s seen t k q fine b in
-          let fit = test_judged (scope_of s) c (agrees c s seen k) d z.value j z.is in
+          let fit = test_judged (scope_of s) c (agrees c s seen k.holds) d z.value j z.is in
           let is_test : u.0 ≡ z.value = ap (λ (y : Test × Tally). y.0) z.gives in (
             ap (λ (x : Test). stat_part c (stats.While x (sequence s (lines c r ks) u.1).0) seen (next_by t.labels (length t.locals))) is_test
                 ∙ ap (λ (y : List Labelled × Tally). stat_part c (stats.While z.value y.0) seen (next_by t.labels (length t.locals))) moved
@@ -457,7 +485,7 @@ module _ (c : Scope) (small : length c.locals < 65536) (standing : list_all (loc
       pub gives : bounds_in s d limit t ≡ (record { start = start; step = step; end = end }, t)
       pub ints : tree.is_int_value c start && (tree.is_int_step c step && tree.is_int_value c end) ≡ true
 
-    bounds_found : (s : Sight) (seen : Seen) (d : Control) (limit : Expr) (t : Tally) → Holds c s seen → (bounds_in s d limit t).1.faults ≡ [] → BoundsFound s d limit t
+    bounds_found : (s : Sight) (seen : Seen) (d : Control) (limit : Expr) (t : Tally) → Shown c s seen → (bounds_in s d limit t).1.faults ≡ [] → BoundsFound s d limit t
     bounds_found s seen d limit t k f =
         let u : Value × Tally = int_in s d.start t in
         let v : Option Value × Tally = any_int_in s d.step u.1 in
@@ -506,7 +534,7 @@ module _ (c : Scope) (small : length c.locals < 65536) (standing : list_all (loc
           let fine_n : Fine c n.1 = fine_before c (grow_sequence (within (variable_of d n.0) s) (lines c r ks) (lines_grow c r ks) n.1) fine in
           let number : n.0 ≡ length t.locals = next_is t (fine_before c (before_three t) fine_n) in
           let entry : EntryHolds c seen (d.name.name, meaning.Loop n.0) = (ap (slice_get c.locals) number ∙ loop_there t fine_n, tt) in
-          let inside = holds_within c s seen (variable_of d n.0) k (declared_holds c seen d.name.name (meaning.Loop n.0) [] tt entry) in
+          let inside = shown_within c s seen (variable_of d n.0) k (declared_holds c seen d.name.name (meaning.Loop n.0) [] tt entry) (tt, tt) in
           let go = sequence_fits c r ks (within (variable_of d n.0) s) seen n.1 inside q fine b in (
             ap (λ (y : Stat × Tally). stat_part c y.0 seen (next_by t.labels (length t.locals))) moved
                 ∙ ap (λ (i : ℕ). stat_part c (stats.For i z.start z.step z.end (body n.0).0) seen (next_by t.labels (length t.locals))) number
@@ -559,12 +587,12 @@ module _ (c : Scope) (small : length c.locals < 65536) (standing : list_all (loc
       fits = λ s seen t k q f b.
           let u : Test × Tally = test_or (test_in s d) t in
           let none : u.1.faults ≡ [] = pre_none u.1.faults _ f.none (grow_sequence s (lines c r ks) (lines_grow c r ks) u.1).faults in
-          let z = settled (tests.Compare rel.Equal (values.Number 0) (values.Number 0)) (test_in s d) t none in
+          let z = settled (tests.Compare rel.Equal (values.Number 0) (values.Number 0)) (test_in s d) t (test_certain s (shown_knows c s seen k) d) none in
           let back : (List Labelled × Tally) = sequence s (lines c r ks) t in
           let moved : sequence s (lines c r ks) u.1 ≡ back = ap (λ (y : Test × Tally). sequence s (lines c r ks) y.1) z.gives in
           let fine : Fine c back.1 = subst (λ (y : List Labelled × Tally). Fine c y.1) moved f in
           let go = sequence_fits c r ks s seen t k q fine b in
-          let fit = test_judged (scope_of s) c (agrees c s seen k) d z.value j z.is in
+          let fit = test_judged (scope_of s) c (agrees c s seen k.holds) d z.value j z.is in
           let is_test : u.0 ≡ z.value = ap (λ (y : Test × Tally). y.0) z.gives in (
             ap (λ (x : Test). branch_part c (roll-Branched (record { test = x; taken = (sequence s (lines c r ks) u.1).0 })) seen (next_by t.labels (length t.locals))) is_test
                 ∙ ap (λ (y : List Labelled × Tally). branch_part c (roll-Branched (record { test = z.value; taken = y.0 })) seen (next_by t.labels (length t.locals))) moved
@@ -594,19 +622,19 @@ module _ (c : Scope) (small : length c.locals < 65536) (standing : list_all (loc
     no_start n m t true e f = (refl, e)
     no_start n m t false e f = absurd (one_is_there t.faults (fault.BadStart n.at) f)
 
-    start_found : (s : Sight) (seen : Seen) (n : Ident) (m : Mode) (e : Option Expr) (t : Tally) → Holds c s seen → IsValue m → (start_in s n m e t).1.faults ≡ [] → StartFound s n m e t
+    start_found : (s : Sight) (seen : Seen) (n : Ident) (m : Mode) (e : Option Expr) (t : Tally) → Shown c s seen → IsValue m → (start_in s n m e t).1.faults ≡ [] → StartFound s n m e t
     start_found s seen n m None t k v f =
         let z = no_start n m t (starts_at_zero (out-Mode m)) refl f in
         record { value = None; gives = ap (λ (y : Tally). (None, y)) z.0; fits = z.1 }
     start_found s seen n m (Some e) t k v f =
-        let z = settled (values.Number 0) (value_in s e m) t f in
-        record { value = Some z.value; gives = ap (λ (y : Value × Tally). (Some y.0, y.1)) z.gives; fits = value_judged (scope_of s) c (agrees c s seen k) e m z.value v z.is }
+        let z = settled (values.Number 0) (value_in s e m) t (value_certain s (shown_knows c s seen k) e m) f in
+        record { value = Some z.value; gives = ap (λ (y : Value × Tally). (Some y.0, y.1)) z.gives; fits = value_judged (scope_of s) c (agrees c s seen k.holds) e m z.value v z.is }
 
     pub record DeclaredFits (d : Declared) (seen : Seen) (t : Tally) (result : Declared × Tally) : Type 0 where
       pub starts : List LocalStart
       pub is : result.0.starts ≡ d.starts ++ starts
       pub goes : declares c starts (next_by t.labels (length t.locals)) ≡ Some (next_by result.1.labels (length result.1.locals))
-      pub holds : Holds c result.0.sight seen
+      pub holds : Shown c result.0.sight seen
       pub labels : result.1.labels ≡ t.labels
 
     next_moved : (a b i j : ℕ) → a ≡ b → i ≡ j → Some (next_by a i) ≡ Some (next_by b j)
@@ -617,7 +645,7 @@ module _ (c : Scope) (small : length c.locals < 65536) (standing : list_all (loc
         → declares c (record { local = i; start = x } ∷ ds) (next_by a i) ≡ declares c ds (next_by a (suc i))
     one_declared i x m ds a g h = rw (same_number i, g, h) refl
 
-    local_fits : (m : Mode) (d : Declared) (n : Local) (seen : Seen) (t : Tally) → Holds c d.sight seen → Fine c (local_fit m d n t).1 → DeclaredFits d seen t (local_fit m d n t)
+    local_fits : (m : Mode) (d : Declared) (n : Local) (seen : Seen) (t : Tally) → Shown c d.sight seen → Fine c (local_fit m d n t).1 → DeclaredFits d seen t (local_fit m d n t)
     local_fits m d n seen t k f =
         let u : Option Value × Tally = start_in d.sight n.name m n.start t in
         let here : (local_fit m d n t).1.locals ≡ u.1.locals ++ made.Variable m ∷ [] = ap (λ (l : List Made). l ++ made.Variable m ∷ []) (noted_locals _ _ u.1) in
@@ -638,7 +666,7 @@ module _ (c : Scope) (small : length c.locals < 65536) (standing : list_all (loc
           starts = record { local = length t.locals; start = z.value } ∷ [];
           is = ap (λ (y : Declared × Tally). y.0.starts) moved ∙ ap (λ (i : ℕ). d.starts ++ record { local = i; start = z.value } ∷ []) number;
           goes = one_declared (length t.locals) z.value m [] t.labels there z.fits ∙ next_moved t.labels w.1.labels (suc (length t.locals)) (length w.1.locals) (sym labels_are) count ∙ sym (ap (λ (y : Declared × Tally). Some (next_by y.1.labels (length y.1.locals))) moved);
-          holds = subst (λ (y : Declared × Tally). Holds c y.0.sight seen) (sym moved) (holds_named c d.sight seen n.name.name (meaning.Local (next_local t) m) k entry);
+          holds = subst (λ (y : Declared × Tally). Shown c y.0.sight seen) (sym moved) (shown_named c d.sight seen n.name.name (meaning.Local (next_local t) m) k entry tt);
           labels = ap (λ (y : Declared × Tally). y.1.labels) moved ∙ labels_are;
         }
 
@@ -652,7 +680,7 @@ module _ (c : Scope) (small : length c.locals < 65536) (standing : list_all (loc
       by_test true go h = go h
       by_test false go h = absurd cc
 
-    locals_fit : (m : Mode) (d : Declared) (ns : List Local) (seen : Seen) (t : Tally) → Holds c d.sight seen → Fine c (locals_more (Ok m) d ns t).1 → DeclaredFits d seen t (locals_more (Ok m) d ns t)
+    locals_fit : (m : Mode) (d : Declared) (ns : List Local) (seen : Seen) (t : Tally) → Shown c d.sight seen → Fine c (locals_more (Ok m) d ns t).1 → DeclaredFits d seen t (locals_more (Ok m) d ns t)
     locals_fit m d [] seen t k f = record { starts = []; is = sym (append-nil d.starts); goes = refl; holds = k; labels = refl }
     locals_fit m d (n ∷ ns) seen t k f =
         let u : Declared × Tally = local_fit m d n t in
@@ -666,23 +694,14 @@ module _ (c : Scope) (small : length c.locals < 65536) (standing : list_all (loc
           labels = go.labels ∙ one.labels;
         }
 
-    pub record ModeFound (o : Outcome Mode) (t : Tally) : Type 0 where
-      pub mode : Mode
-      pub is : o ≡ Ok mode
-      pub gives : mode_or o t ≡ (Ok mode, t)
-
-    mode_found : (o : Outcome Mode) (t : Tally) → (mode_or o t).1.faults ≡ [] → ModeFound o t
-    mode_found (Ok m) t f = record { mode = m; is = refl; gives = refl }
-    mode_found (Err g) t f = absurd (one_is_there t.faults g f)
-
-    line_fits : (d : Declared) (l : Locals) (seen : Seen) (t : Tally) → Holds c d.sight seen → Fine c (line_more d l t).1 → DeclaredFits d seen t (line_more d l t)
+    line_fits : (d : Declared) (l : Locals) (seen : Seen) (t : Tally) → Shown c d.sight seen → Fine c (line_more d l t).1 → DeclaredFits d seen t (line_more d l t)
     line_fits d l seen t k f =
         let u : Outcome Mode × Tally = mode_or (mode_in d.sight l.at l.mode) t in
         let z = mode_found (mode_in d.sight l.at l.mode) t (fine_before c (grow_locals u.0 d l.names u.1) f).none in
         let moved : line_more d l t ≡ locals_more (Ok z.mode) d l.names t = ap (λ (y : Outcome Mode × Tally). locals_more y.0 d l.names y.1) z.gives in
         subst (DeclaredFits d seen t) (sym moved) (locals_fit z.mode d l.names seen t k (subst (λ (y : Declared × Tally). Fine c y.1) moved f))
 
-    declarations_fit : (d : Declared) (ls : List Locals) (seen : Seen) (t : Tally) → Holds c d.sight seen → Fine c (declarations d ls t).1 → DeclaredFits d seen t (declarations d ls t)
+    declarations_fit : (d : Declared) (ls : List Locals) (seen : Seen) (t : Tally) → Shown c d.sight seen → Fine c (declarations d ls t).1 → DeclaredFits d seen t (declarations d ls t)
     declarations_fit d [] seen t k f = record { starts = []; is = sym (append-nil d.starts); goes = refl; holds = k; labels = refl }
     declarations_fit d (l ∷ ls) seen t k f =
         let u : Declared × Tally = line_more d l t in
@@ -702,7 +721,7 @@ module _ (c : Scope) (small : length c.locals < 65536) (standing : list_all (loc
       fits = λ s seen t k q f b.
           let u : Declared × Tally = declarations (before (within [] s)) ls t in
           let fine : Fine c u.1 = fine_before c (grow_sequence u.0.sight (lines c r ks) (lines_grow c r ks) u.1) f in
-          let d = declarations_fit (before (within [] s)) ls seen t (holds_within c s seen [] k tt) fine in
+          let d = declarations_fit (before (within [] s)) ls seen t (shown_within c s seen [] k tt tt) fine in
           let go = sequence_fits c r ks u.0.sight seen u.1 d.holds q f (omega (arith, b, d.labels)) in
           let xs : List Labelled = (sequence u.0.sight (lines c r ks) u.1).0 in (
             ap (λ (x : List LocalStart). body_part c (roll-Made (record { locals = x; statements = xs })) seen (next_by t.labels (length t.locals))) d.is
@@ -816,11 +835,11 @@ module _ (c : Scope) (small : length c.locals < 65536) (standing : list_all (loc
 
     simple_level : (x : Simple) (y : Simple-F SimplePair BodyPair BranchPair LinePair)
         → out-Simple x ≡ map-Simple SimplePair BodyPair BranchPair LinePair Simple Body Branch Stmt (λ e. e.0) (λ e. e.0) (λ e. e.0) (λ e. e.0) y → SimpleM x
-    simple_level x (Simple-F.Call h) o b = as_stat (stat_at x (Simple-F.Call h) o) (count_at x (Simple-F.Call h) o) (found_fits (λ s. call_in s h) (λ s seen k q. call_alone h s seen k))
-    simple_level x (Simple-F.Assign h e at) o b = as_stat (stat_at x (Simple-F.Assign h e at) o) (count_at x (Simple-F.Assign h e at) o) (found_fits (λ s. assignment_in s h e) (λ s seen k q. assign_alone h e s seen k))
-    simple_level x (Simple-F.AssignVal h e at) o b = as_stat (stat_at x (Simple-F.AssignVal h e at) o) (count_at x (Simple-F.AssignVal h e at) o) (found_fits (λ s. val_assignment_in s at h e) (λ s seen k q. val_alone h e at s seen k))
+    simple_level x (Simple-F.Call h) o b = as_stat (stat_at x (Simple-F.Call h) o) (count_at x (Simple-F.Call h) o) (found_fits (stats.Call (values.Number 0)) (λ s. call_in s h) (λ s seen k q. call_alone h s seen k))
+    simple_level x (Simple-F.Assign h e at) o b = as_stat (stat_at x (Simple-F.Assign h e at) o) (count_at x (Simple-F.Assign h e at) o) (found_fits (stats.Call (values.Number 0)) (λ s. assignment_in s h e) (λ s seen k q. assign_alone h e s seen k))
+    simple_level x (Simple-F.AssignVal h e at) o b = as_stat (stat_at x (Simple-F.AssignVal h e at) o) (count_at x (Simple-F.AssignVal h e at) o) (found_fits (stats.Call (values.Number 0)) (λ s. val_assignment_in s at h e) (λ s seen k q. val_alone h e at s seen k))
     simple_level x (Simple-F.Goto n at) o b = as_stat (stat_at x (Simple-F.Goto n at) o) (count_at x (Simple-F.Goto n at) o) (goto_fits n)
-    simple_level x (Simple-F.Return e at) o b = as_stat (stat_at x (Simple-F.Return e at) o) (count_at x (Simple-F.Return e at) o) (found_fits (λ s. returned r s e at) (λ s seen k q. return_by r e at s seen seen.result refl k q))
+    simple_level x (Simple-F.Return e at) o b = as_stat (stat_at x (Simple-F.Return e at) o) (count_at x (Simple-F.Return e at) o) (found_fits (stats.Return None) (λ s. returned r s e at) (λ s seen k q. return_by r e at s seen seen.result refl k q))
     simple_level x (Simple-F.Switch e ns at) o b = as_stat (stat_at x (Simple-F.Switch e ns at) o) (count_at x (Simple-F.Switch e ns at) o) (switch_fits e ns (sym (broad_at x (Simple-F.Switch e ns at) o) ∙ b))
     simple_level x (Simple-F.Block p at) o b =
         as_stat (stat_at x (Simple-F.Block p.0 at) o) (count_at x (Simple-F.Block p.0 at) o) (block_fits (spec.body r p.0) (labels_in_body p.0) (p.1 (sym (broad_at x (Simple-F.Block p.0 at) o) ∙ b)))

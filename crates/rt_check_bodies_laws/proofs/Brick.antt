@@ -35,9 +35,10 @@ use Rattle.rt_bricks_laws.specs.Bodies.{labels_in_body, body_is_broad}
 use Rattle.rt_check_bodies.specs.Procedures.{named, group, parameters, answer_in, is_wanted, closed_at, nothing_yet, procedure, faults}
 use Rattle.rt_check_bodies.specs.Statements as spec
 use Rattle.rt_check_bodies_laws.proofs.Growing.{Pre, pre_same, Grew, grew_same, grew_then, Growing, grow_mode}
-use Rattle.rt_check_bodies_laws.specs.Held.{Holds, LevelHolds, ResultIs}
-use Rattle.rt_check_bodies_laws.proofs.Holding.{holds_within, declared_holds}
-use Rattle.rt_check_bodies_laws.proofs.Sequences.{one_is_there, pre_length, pre_get, small_rest, Fine, fine_before}
+use Rattle.rt_check_bodies_laws.specs.Held.{Holds, LevelHolds, IsKnown, LevelKnown, AllKnown, ResultIs}
+use Rattle.rt_check_bodies_laws.proofs.Each.{declared_each}
+use Rattle.rt_check_bodies_laws.proofs.Holding.{shown_within, declared_holds}
+use Rattle.rt_check_bodies_laws.proofs.Sequences.{mode_found, one_is_there, pre_length, pre_get, small_rest, Fine, fine_before}
 use Rattle.rt_check_bodies_laws.proofs.Accepted.{local_value, body_accepted}
 
 grow_noted : (b : Bool) (g : CheckFault) (t : Tally) → Grew t (noted_if b g t)
@@ -92,39 +93,41 @@ length_mapped (m ∷ ms) = ap suc (length_mapped ms)
 module _ (c : Scope) (small : length c.locals < 65536) (standing : list_all (local_stands (length c.records)) c.locals ≡ true) where
   pub record ParametersFit (seen : Seen) (t : Tally) (result : Names × Tally) : Type 0 where
     pub level : LevelHolds c seen result.0
+    pub known : LevelKnown result.0
     pub labels : result.1.labels ≡ t.labels
 
-  one_named : (l : Names) (n : Ident) (m : Outcome Mode) (seen : Seen) (t : Tally) → LevelHolds c seen l → Fine c (named l n m t).1 → ParametersFit seen t (named l n m t)
-  one_named l n (Err g) seen t h f = record { level = declared_holds c seen n.name (meaning.Unfit g) l h (tt, tt); labels = noted_labels _ _ t }
-  one_named l n (Ok m) seen t h f =
+  one_named : (l : Names) (n : Ident) (m : Mode) (seen : Seen) (t : Tally) → LevelHolds c seen l → LevelKnown l → Fine c (named l n (Ok m) t).1 → ParametersFit seen t (named l n (Ok m) t)
+  one_named l n m seen t h k f =
       let here : (named l n (Ok m) t).1.locals ≡ t.locals ++ made.Variable m ∷ [] = ap (λ (x : List Made). x ++ made.Variable m ∷ []) (noted_locals _ _ t) in
       let there = pre_get t.locals (made.Variable m) c.locals (subst (λ (x : List Made). Pre x c.locals) here f.known) in
       let number : next_local t ≡ length t.locals = small_rest (length t.locals) (omega (arith, small, pre_length (fine_before c (grow_named l n (Ok m) t) f).known)) in
       record {
         level = declared_holds c seen n.name (meaning.Local (next_local t) m) l h ((ap (slice_get c.locals) number ∙ there, local_value c small standing (length t.locals) m there), tt);
+        known = declared_each IsKnown n.name (meaning.Local (next_local t) m) l k tt;
         labels = noted_labels _ _ t;
       }
 
-  group_fits : (m : Outcome Mode) (l : Names) (ns : List Ident) (seen : Seen) (t : Tally) → LevelHolds c seen l → Fine c (group m l ns t).1 → ParametersFit seen t (group m l ns t)
-  group_fits m l [] seen t h f = record { level = h; labels = refl }
-  group_fits m l (n ∷ ns) seen t h f =
-      let u : Names × Tally = named l n m t in
-      let one = one_named l n m seen t h (fine_before c (grow_group m u.0 ns u.1) f) in
-      let go = group_fits m u.0 ns seen u.1 one.level f in
-      record { level = go.level; labels = go.labels ∙ one.labels }
+  group_fits : (m : Mode) (l : Names) (ns : List Ident) (seen : Seen) (t : Tally) → LevelHolds c seen l → LevelKnown l → Fine c (group (Ok m) l ns t).1 → ParametersFit seen t (group (Ok m) l ns t)
+  group_fits m l [] seen t h k f = record { level = h; known = k; labels = refl }
+  group_fits m l (n ∷ ns) seen t h k f =
+      let u : Names × Tally = named l n (Ok m) t in
+      let one = one_named l n m seen t h k (fine_before c (grow_group (Ok m) u.0 ns u.1) f) in
+      let go = group_fits m u.0 ns seen u.1 one.level one.known f in
+      record { level = go.level; known = go.known; labels = go.labels ∙ one.labels }
 
-  mode_labels : (o : Outcome Mode) (t : Tally) → (mode_or o t).1.labels ≡ t.labels
-  mode_labels (Ok m) t = refl
-  mode_labels (Err g) t = refl
-
-  pub parameters_fit : (s : Sight) (l : Names) (fs : List Fields) (seen : Seen) (t : Tally) → LevelHolds c seen l → Fine c (parameters s l fs t).1 → ParametersFit seen t (parameters s l fs t)
-  parameters_fit s l [] seen t h f = record { level = h; labels = refl }
-  parameters_fit s l (x ∷ fs) seen t h f =
+  pub parameters_fit : (s : Sight) (l : Names) (fs : List Fields) (seen : Seen) (t : Tally) → LevelHolds c seen l → LevelKnown l → Fine c (parameters s l fs t).1 → ParametersFit seen t (parameters s l fs t)
+  parameters_fit s l [] seen t h k f = record { level = h; known = k; labels = refl }
+  parameters_fit s l (x ∷ fs) seen t h k f =
       let u : Outcome Mode × Tally = mode_or (mode_in s x.at x.mode) t in
-      let v : Names × Tally = group u.0 l x.names u.1 in
-      let one = group_fits u.0 l x.names seen u.1 h (fine_before c (grow_parameters s v.0 fs v.1) f) in
-      let go = parameters_fit s v.0 fs seen v.1 one.level f in
-      record { level = go.level; labels = go.labels ∙ one.labels ∙ mode_labels (mode_in s x.at x.mode) t }
+      let w : Names × Tally = group u.0 l x.names u.1 in
+      let fine : Fine c u.1 = fine_before c (grow_group u.0 l x.names u.1) (fine_before c (grow_parameters s w.0 fs w.1) f) in
+      let z = mode_found (mode_in s x.at x.mode) t fine.none in
+      let v : Names × Tally = group (Ok z.mode) l x.names t in
+      let moved : parameters s l (x ∷ fs) t ≡ parameters s v.0 fs v.1 = ap (λ (y : Outcome Mode × Tally). let w = group y.0 l x.names y.1 in parameters s w.0 fs w.1) z.gives in
+      let fine_v : Fine c (parameters s v.0 fs v.1).1 = subst (λ (y : Names × Tally). Fine c y.1) moved f in
+      let one = group_fits z.mode l x.names seen t h k (fine_before c (grow_parameters s v.0 fs v.1) fine_v) in
+      let go = parameters_fit s v.0 fs seen v.1 one.level one.known fine_v in
+      subst (ParametersFit seen t) (sym moved) (record { level = go.level; known = go.known; labels = go.labels ∙ one.labels })
 
   answer_keeps : (s : Sight) (at : At) (w : Option WrittenMode) (t : Tally) → ((answer_in s at w t).1.labels ≡ t.labels) × ((answer_in s at w t).1.locals ≡ t.locals)
   answer_keeps s at None t = (refl, refl)
@@ -164,14 +167,14 @@ closed_by (answer.Wanted m) (Some n) at b t q f = by_end (closed b) refl f where
   by_end : (z : Bool) → closed b ≡ z → (noted_if (not z) (fault.NoResult at) t).faults ≡ [] → closed b ≡ true
   by_end true e h = e
   by_end false e h = absurd (one_is_there t.faults (fault.NoResult at) h)
-closed_by answer.Unfit None at b t q f = absurd q
-closed_by answer.Unfit (Some m) at b t q f = absurd q
+closed_by answer.Unknown None at b t q f = absurd q
+closed_by answer.Unknown (Some m) at b t q f = absurd q
 
 module _ (c : Scope) (s : Sight) (b : ProcedureBrick) (ms : List Mode) (res : Option Mode) where
   abbrev inner : Scope
   inner = with_locals c (procedure s b).locals
 
-  module _ (holds : (seen : Seen) → Holds inner s seen) (few : length (procedure s b).locals < 65536) (standing : list_all (local_stands (length c.records)) (procedure s b).locals ≡ true)
+  module _ (holds : (seen : Seen) → Holds inner s seen) (known : AllKnown s) (few : length (procedure s b).locals < 65536) (standing : list_all (local_stands (length c.records)) (procedure s b).locals ≡ true)
       (heads : (parameters s [] b.fields nothing_yet).1.locals ≡ map made.Variable ms) (answers : ResultIs (answer_in s b.at b.result (parameters s [] b.fields nothing_yet).1).0 res)
       (broad : body_is_broad b.body ≡ true) (labels : labels_in_body b.body < 65536) (none : faults s b ≡ []) where
     pub procedure_accepted : proc_fits c ms res (procedure s b) ≡ true
@@ -186,15 +189,15 @@ module _ (c : Scope) (s : Sight) (b : ProcedureBrick) (ms : List Mode) (res : Op
         let fine_a : Fine inner a.1 = fine_before inner (fits.grows (within p.0 s) a.1) fine_m in
         let fine_p : Fine inner p.1 = fine_before inner (grow_answer s b.at b.result p.1) fine_a in
         let given : Seen = first_sight res 0 in
-        let named_so = parameters_fit inner few standing s [] b.fields given nothing_yet tt fine_p in
+        let named_so = parameters_fit inner few standing s [] b.fields given nothing_yet tt tt fine_p in
         let kept = answer_keeps inner few standing s b.at b.result p.1 in
         let labels_are : a.1.labels ≡ 0 = kept.0 ∙ named_so.labels in
         let locals_are : length a.1.locals ≡ length ms = ap length (kept.1 ∙ heads) ∙ length_mapped ms in
         let small : a.1.labels + labels_in_body b.body < 65536 = omega (arith, labels, labels_are) in
         let goes : (seen : Seen) → seen.result ≡ res → body_part inner m.0 seen (next_by 0 (length ms)) ≡ Some (next_by m.1.labels (length m.1.locals)) =
         λ seen e.
-        let level = parameters_fit inner few standing s [] b.fields seen nothing_yet tt fine_p in
-        let inside = holds_within inner s seen p.0 (holds seen) level.level in
+        let level = parameters_fit inner few standing s [] b.fields seen nothing_yet tt tt fine_p in
+        let inside = shown_within inner s seen p.0 (record { holds = holds seen; known = known }) level.level level.known in
         let q : ResultIs a.0 seen.result = subst (λ (z : Option Mode). ResultIs a.0 z) (sym e) answers in
         let go = fits.fits (within p.0 s) seen a.1 inside q fine_m small in
         ap (λ (k : ℕ). body_part inner m.0 seen (next_by k (length ms))) (sym labels_are) ∙ ap (λ (k : ℕ). body_part inner m.0 seen (next_by a.1.labels k)) (sym locals_are) ∙ go.0 in

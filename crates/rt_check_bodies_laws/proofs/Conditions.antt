@@ -1,5 +1,5 @@
 -- Conditions, places that are assigned and calls that stand alone stay within their items.
-use Rattle.std.proofs.Common.{◌≡◌, ℕ, ◌+◌, max, ◌&&◌, Bool, true, false, List, ◌∷◌, length, Some, Ok, Err, if◌then◌else◌, map, arith, refl, sym, ap, ◌∙◌, subst}
+use Rattle.std.proofs.Common.{◌≡◌, ℕ, ◌+◌, max, ◌&&◌, Bool, true, false, List, ◌∷◌, length, Option, Some, None, Ok, Err, if◌then◌else◌, map, arith, refl, sym, ap, ◌∙◌, subst}
 use Rattle.std.specs.Prelude.{nat_le}
 use Rattle.rt_grammar.specs.declared.at.At.{At}
 use Rattle.rt_syntax_exprs.specs.declared.tree.Chain.{Chain}
@@ -31,7 +31,7 @@ use Rattle.rt_exprs.specs.Operands.{Is, text, place, loop, result, done}
 use Rattle.rt_exprs.specs.Outcomes.{Outcome}
 use Rattle.rt_exprs.specs.Fitting as f
 use Rattle.rt_exprs.specs.Fitting.{Assigns, AssignsVal, CallIs, TestIs, TestsAre}
-use Rattle.rt_exprs.specs.Judging.{compares, made_rel, reference_in, place_compares, result_compares, base_in, frac_or_int, assigned_is, called_is, is_whole}
+use Rattle.rt_exprs.specs.Judging.{compares, made_rel, reference_in, place_compares, result_compares, base_in, frac_or_int, place_if, assigned_is, called_is, is_whole}
 use Rattle.rt_tree.specs.Depth.{condition_depth}
 use Rattle.rt_tree.specs.Statements.{Tested, tested, joined_by}
 use Rattle.rt_tree.specs.Weights.{condition_weight}
@@ -155,16 +155,20 @@ module _ (c : Scope) where
   spot_within p m k (in_local i e t l) = rw t l
   spot_within p m k (in_path b q e t h) = rw t h
 
-  same_target : (a b : Place × Mode) (o : Outcome (Place × Mode)) → o ≡ Ok a → o ≡ Ok b → a ≡ b
-  same_target a b o e h = cc
+  abbrev place_in : Outcome (Option Place × Mode) → Option Place
+  place_in (Ok x) = x.0
+  place_in (Err g) = None
 
-  whole_split : (at : At) (p : Place) (m : Mode) (x : Place × Mode) (k : ℕ) (b : Bool) → (if b then Err (fault.NotAssignable at) else Ok (p, m)) ≡ Ok x → PlaceWithin c p m k → SpotWithin k (placed c x.0).tree
-  whole_split at p m x k true e h = absurd cc
-  whole_split at p m x k false e h = subst (λ (y : Place × Mode). SpotWithin k (placed c y.0).tree) (same_target (p, m) x _ refl e) (spot_within p m k h)
+  same_place : (p q : Place) → Some p ≡ Some q → p ≡ q
+  same_place p q e = cc
 
-  assigned_within : (at : At) (is : Is) (x : Place × Mode) (k : ℕ) → Within c k is → assigned_is at is ≡ Ok x → SpotWithin k (placed c x.0).tree
-  assigned_within at (place p m st) x k h e = whole_split at p m x k (is_whole (out-Mode m)) e h.0
-  assigned_within at _ x k h e = absurd cc
+  whole_split : (at : At) (p q : Place) (m n : Mode) (k : ℕ) (b : Bool) → if◌then◌else◌ {A = Outcome (Option Place × Mode)} b (Err (fault.NotAssignable at)) (Ok (place_if true p, m)) ≡ Ok (Some q, n) → PlaceWithin c p m k → SpotWithin k (placed c q).tree
+  whole_split at p q m n k true e h = absurd cc
+  whole_split at p q m n k false e h = subst (λ (y : Place). SpotWithin k (placed c y).tree) (same_place p q (ap (λ (o : Outcome (Option Place × Mode)). place_in o) e)) (spot_within p m k h)
+
+  assigned_within : (at : At) (is : Is) (q : Place) (n : Mode) (k : ℕ) → Within c k is → assigned_is at true is ≡ Ok (Some q, n) → SpotWithin k (placed c q).tree
+  assigned_within at (place p m st) q n k h e = whole_split at p q m n k (is_whole (out-Mode m)) e h.0
+  assigned_within at _ q n k h e = absurd cc
 
   same_value : (a b : Value) (o : Outcome Value) → o ≡ Ok a → o ≡ Ok b → a ≡ b
   same_value a b o e h = cc
@@ -176,11 +180,11 @@ module _ (c : Scope) where
 
   module _ (s : Names) (agree : Agree s c) (few : AllFew c) where
     pub assigns_within : {h : Chain} {x : Place × Mode} → Assigns s h x → SpotWithin (in_chain h) (placed c x.0).tree
-    assigns_within {h = h} (f.assigns {f = g} {x = x} b i e) = assigned_within g.at g.is x (in_chain h) (chain_within c s agree few i) e
+    assigns_within {h = h} (f.assigns {f = g} {p = p} {m = m} b i e) = assigned_within g.at g.is p m (in_chain h) (chain_within c s agree few i) e
 
     pub assigns_val_within : {at : At} {h : Chain} {x : Place × Mode} → AssignsVal s at h x → SpotWithin (1 + in_chain h) (placed c x.0).tree
-    assigns_val_within {at = at} {h = h} (f.assigns_val {f = g} {p = p} {m = m} {x = x} i t e) =
-        assigned_within at (place p m standing.Shared) x (1 + in_chain h) (subst (TargetWithin c (1 + in_chain h)) t (target_within c g.is (in_chain h) (chain_typed s c agree i) (chain_within c s agree few i))) e
+    assigns_val_within {at = at} {h = h} (f.assigns_val {f = g} {p = p} {q = q} {m = m} {n = n} i t e) =
+        assigned_within at (place p m standing.Shared) q n (1 + in_chain h) (subst (TargetWithin c (1 + in_chain h)) t (target_within c g.is (in_chain h) (chain_typed s c agree i) (chain_within c s agree few i))) e
 
     pub call_is_within : {h : Chain} {x : Value} → CallIs s h x → CallWithin (in_chain h) (tree_of c x)
     call_is_within {h = h} (f.call_is {f = g} {x = x} i e) = called_within g.at g.is x (in_chain h) (chain_within c s agree few i) e

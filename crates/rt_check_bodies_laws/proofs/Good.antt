@@ -9,6 +9,7 @@ use Rattle.rt_syntax_exprs.specs.declared.tree.Expr.{Expr}
 use Rattle.rt_bricks_laws.specs.Counts.{names, in_expr, in_chain, in_cond, behind_one}
 use Rattle.rt_modes.specs.declared.mode.Mode.{Mode}
 use Rattle.rt_modes.specs.declared.mode.Mode.TheVariants as mode
+use Rattle.rt_exprs_laws.proofs.Layers.{number_value}
 use Rattle.rt_tree_nodes.specs.declared.operators.Rel.TheVariants as rel
 use Rattle.rt_tree_nodes.specs.declared.statement.Stat.{Stat}
 use Rattle.rt_tree_nodes.specs.declared.statement.Stat.TheVariants as stats
@@ -26,13 +27,14 @@ use Rattle.rt_tree.specs.Modules.{local_stands}
 use Rattle.rt_tree.specs.Statements.{Sight as Seen, call_tree, assigned_tree, step_tree, tested}
 use Rattle.rt_syntax_exprs.specs.Joins.{joins_two}
 use Rattle.rt_check_bodies.specs.declared.tally.Tally.{Tally}
-use Rattle.rt_check_bodies.specs.Parts.{found_or, value_or, stat_or, test_or, label_or, labels_in}
+use Rattle.rt_check_bodies.specs.Parts.{found_or, value_or, stat_or, return_or, test_or, label_or, labels_in}
 use Rattle.rt_check_bodies.specs.Sights.{Sight, scope_of, value_in, assignment_in, val_assignment_in, call_in, test_in, label_in}
 use Rattle.rt_check_bodies.specs.declared.answer.Answer.{Answer}
 use Rattle.rt_check_bodies.specs.declared.answer.Answer.TheVariants as answer
 use Rattle.rt_check_bodies.specs.Statements.{JudgedStat, int_in, any_int_in, goto, switch, returned, return_of}
 use Rattle.rt_check_bodies_laws.specs.Held.{Holds}
-use Rattle.rt_check_bodies_laws.proofs.Growing.{Pre, Growing, grow_found, grow_goto, grow_switch}
+use Rattle.rt_check_bodies_laws.proofs.Growing.{Pre, Growing, known_locals, grow_found, grow_goto, grow_switch}
+use Rattle.rt_check_bodies_laws.proofs.Accepted.{assigned_by}
 use Rattle.rt_check_bodies_laws.proofs.Conditions.{comparison_within}
 use Rattle.rt_check_bodies_laws.proofs.Reached.{behind_least}
 use Rattle.rt_check_bodies_laws.proofs.Suited.{number_within}
@@ -58,7 +60,7 @@ pub record StatGood (p : JudgedStat) (n : ℕ) : Type 0 where
 
 pub found_locals : {A : Type 0} (other : A) (o : Outcome A) (t : Tally) → (found_or other o t).1.locals ≡ t.locals
 found_locals other (Ok x) t = refl
-found_locals other (Err g) t = refl
+found_locals other (Err g) t = known_locals g t
 
 pub found_is : {A : Type 0} (P : A → Type 0) (other : A) (o : Outcome A) (t : Tally) → P other → ((x : A) → o ≡ Ok x → P x) → P (found_or other o t).0
 found_is P other (Ok x) t h go = go x refl
@@ -97,6 +99,10 @@ module _ (c : Scope) where
   pub back_within : (n : ℕ) → 1 ≤ n → StatementWithin n (stat_of c (stats.Return None))
   back_within n l = record { weight = rw made_back (omega (arith, l)); depth = rw made_back (omega arith) }
 
+  -- what stands for a call or an assignment that is unfit or can't be known
+  pub nothing_called : (n : ℕ) → 1 ≤ n → StatementWithin n (stat_of c (stats.Call (values.Number 0)))
+  nothing_called n l = record { weight = rw (made_call, number_value c 0) (omega (arith, l)); depth = rw (made_call, number_value c 0) l }
+
   return_within : (v : Value) (n : ℕ) → ValueWithin n (valued c v).tree → StatementWithin (1 + n) (stat_of c (stats.Return (Some v)))
   return_within v n h = record { weight = rw made_return (omega (arith, h.weight)); depth = rw made_return (omega (arith, h.depth)) }
 
@@ -108,35 +114,34 @@ module _ (c : Scope) where
 
 -- ---- one found statement
 
-found_good : (o : Sight → Outcome Stat) (n : ℕ) → 1 ≤ n → ((c : Scope) → AllFew c → (s : Sight) (seen : Seen) → Holds c s seen → (x : Stat) → o s ≡ Ok x → StatementWithin n (stat_of c x)) → StatGood (λ s. stat_or (o s)) n
-found_good o n l h = record {
-  grows = λ s t. grow_found (stats.Return None) (o s) t;
-  counts = λ s t. omega (arith, ap length (found_locals (stats.Return None) (o s) t));
-  within = λ c a s seen t k f. found_is (λ x. StatementWithin n (stat_of c x)) (stats.Return None) (o s) t (back_within c n l) (h c a.few s seen k);
-}
+module _ (other : Stat) (o : Sight → Outcome Stat) (n : ℕ) where
+  found_good : ((c : Scope) → StatementWithin n (stat_of c other)) → ((c : Scope) → AllFew c → (s : Sight) (seen : Seen) → Holds c s seen → (x : Stat) → o s ≡ Ok x → StatementWithin n (stat_of c x)) → StatGood (λ s. found_or other (o s)) n
+  found_good stays h = record {
+    grows = λ s t. grow_found other (o s) t;
+    counts = λ s t. omega (arith, ap length (found_locals other (o s) t));
+    within = λ c a s seen t k f. found_is (λ x. StatementWithin n (stat_of c x)) other (o s) t (stays c) (h c a.few s seen k);
+  }
 
 pub call_good : (h : Chain) → StatGood (λ s. stat_or (call_in s h)) (in_chain h)
-call_good h = found_good (λ s. call_in s h) (in_chain h) (chain_some h)
+call_good h = found_good (stats.Call (values.Number 0)) (λ s. call_in s h) (in_chain h) (λ c. nothing_called c (in_chain h) (chain_some h))
     (λ c few s seen k x e.
     let z = bound (alone (scope_of s) h) (λ v. Ok (stats.Call v)) x e in
     subst (λ (y : Stat). StatementWithin (in_chain h) (stat_of c y)) (ok_stat (stats.Call z.value) x (Ok (stats.Call z.value)) refl z.gives)
     (rw made_call (call_within (in_chain h) (valued c z.value) (call_judged c few s seen k h z.value z.is))))
 
 pub assign_good : (h : Chain) (e : Expr) → StatGood (λ s. stat_or (assignment_in s h e)) (in_chain h + (1 + in_expr e))
-assign_good h e = found_good (λ s. assignment_in s h e) (in_chain h + (1 + in_expr e)) (omega arith)
+assign_good h e = found_good (stats.Call (values.Number 0)) (λ s. assignment_in s h e) (in_chain h + (1 + in_expr e)) (λ c. nothing_called c (in_chain h + (1 + in_expr e)) (omega arith))
     (λ c few s seen k x q.
-    let z = bound (target (scope_of s) h) (λ p. value_in s e p.1 >>= λ v. Ok (stats.Assign p.0 v)) x q in
-    let y = bound (value_in s e z.value.1) (λ v. Ok (stats.Assign z.value.0 v)) x z.gives in
-    subst (λ (w : Stat). StatementWithin (in_chain h + (1 + in_expr e)) (stat_of c w)) (ok_stat (stats.Assign z.value.0 y.value) x (Ok (stats.Assign z.value.0 y.value)) refl y.gives)
-    (rw made_assign (assigned_within (in_chain h + (1 + in_expr e)) (placed c z.value.0) (valued c y.value).tree (in_chain h) (in_expr e) refl (target_judged c few s seen k h z.value z.is) (value_judged c few s seen k e z.value.1 y.value y.is))))
+    let z = assigned_by s (target (scope_of s) h) e x q in
+    subst (λ (w : Stat). StatementWithin (in_chain h + (1 + in_expr e)) (stat_of c w)) z.is
+    (rw made_assign (assigned_within (in_chain h + (1 + in_expr e)) (placed c z.place) (valued c z.value).tree (in_chain h) (in_expr e) refl (target_judged c few s seen k h (z.place, z.mode) z.target) (value_judged c few s seen k e z.mode z.value z.given))))
 
 pub assign_val_good : (at : At) (h : Chain) (e : Expr) → StatGood (λ s. stat_or (val_assignment_in s at h e)) (1 + (in_chain h + (1 + in_expr e)))
-assign_val_good at h e = found_good (λ s. val_assignment_in s at h e) (1 + (in_chain h + (1 + in_expr e))) (omega arith)
+assign_val_good at h e = found_good (stats.Call (values.Number 0)) (λ s. val_assignment_in s at h e) (1 + (in_chain h + (1 + in_expr e))) (λ c. nothing_called c (1 + (in_chain h + (1 + in_expr e))) (omega arith))
     (λ c few s seen k x q.
-    let z = bound (val_target (scope_of s) at h) (λ p. value_in s e p.1 >>= λ v. Ok (stats.Assign p.0 v)) x q in
-    let y = bound (value_in s e z.value.1) (λ v. Ok (stats.Assign z.value.0 v)) x z.gives in
-    subst (λ (w : Stat). StatementWithin (1 + (in_chain h + (1 + in_expr e))) (stat_of c w)) (ok_stat (stats.Assign z.value.0 y.value) x (Ok (stats.Assign z.value.0 y.value)) refl y.gives)
-    (rw made_assign (assigned_within (1 + (in_chain h + (1 + in_expr e))) (placed c z.value.0) (valued c y.value).tree (1 + in_chain h) (in_expr e) (omega arith) (val_judged c few s seen k at h z.value z.is) (value_judged c few s seen k e z.value.1 y.value y.is))))
+    let z = assigned_by s (val_target (scope_of s) at h) e x q in
+    subst (λ (w : Stat). StatementWithin (1 + (in_chain h + (1 + in_expr e))) (stat_of c w)) z.is
+    (rw made_assign (assigned_within (1 + (in_chain h + (1 + in_expr e))) (placed c z.place) (valued c z.value).tree (1 + in_chain h) (in_expr e) (omega arith) (val_judged c few s seen k at h (z.place, z.mode) z.target) (value_judged c few s seen k e z.mode z.value z.given))))
 
 -- ---- RETURN
 
@@ -147,10 +152,10 @@ returned_value (Err g) x e = absurd cc
 bare_return : (c : Scope) (r : Answer) (s : Sight) (at : At) (x : Stat) → returned r s None at ≡ Ok x → StatementWithin 1 (stat_of c x)
 bare_return c answer.Nothing s at x e = subst (λ (w : Stat). StatementWithin 1 (stat_of c w)) (ok_stat (stats.Return None) x (Ok (stats.Return None)) refl e) (back_within c 1 (omega arith))
 bare_return c (answer.Wanted m) s at x e = absurd cc
-bare_return c answer.Unfit s at x e = subst (λ (w : Stat). StatementWithin 1 (stat_of c w)) (ok_stat (stats.Return None) x (Ok (stats.Return None)) refl e) (back_within c 1 (omega arith))
+bare_return c answer.Unknown s at x e = subst (λ (w : Stat). StatementWithin 1 (stat_of c w)) (ok_stat (stats.Return None) x (Ok (stats.Return None)) refl e) (back_within c 1 (omega arith))
 
-pub return_good : (r : Answer) (at : At) → StatGood (λ s. stat_or (returned r s None at)) 1
-return_good r at = found_good (λ s. returned r s None at) 1 (omega arith) (λ c few s seen k x e. bare_return c r s at x e)
+pub return_good : (r : Answer) (at : At) → StatGood (λ s. return_or (returned r s None at)) 1
+return_good r at = found_good (stats.Return None) (λ s. returned r s None at) 1 (λ c. back_within c 1 (omega arith)) (λ c few s seen k x e. bare_return c r s at x e)
 
 given_back : (c : Scope) → AllFew c → (s : Sight) (seen : Seen) → Holds c s seen → (e : Expr) (m : Mode) (x : Stat) → return_of (value_in s e m) ≡ Ok x → StatementWithin (1 + in_expr e) (stat_of c x)
 given_back c few s seen k e m x h =
@@ -158,13 +163,12 @@ given_back c few s seen k e m x h =
     subst (λ (w : Stat). StatementWithin (1 + in_expr e) (stat_of c w)) z.2 (return_within c z.0 (in_expr e) (value_judged c few s seen k e m z.0 z.1))
 
 value_return : (c : Scope) → AllFew c → (r : Answer) (s : Sight) (seen : Seen) → Holds c s seen → (e : Expr) (at : At) (x : Stat) → returned r s (Some e) at ≡ Ok x → StatementWithin (1 + in_expr e) (stat_of c x)
-value_return c few answer.Nothing s seen k e at x h = given_back c few s seen k e mode.Label x h
+value_return c few answer.Nothing s seen k e at x h = absurd cc
 value_return c few (answer.Wanted m) s seen k e at x h = given_back c few s seen k e m x h
-value_return c few answer.Unfit s seen k e at x h =
-    subst (λ (w : Stat). StatementWithin (1 + in_expr e) (stat_of c w)) (ok_stat (stats.Return None) x (Ok (stats.Return None)) refl h) (back_within c (1 + in_expr e) (omega arith))
+value_return c few answer.Unknown s seen k e at x h = absurd cc
 
-pub value_return_good : (r : Answer) (e : Expr) (at : At) → StatGood (λ s. stat_or (returned r s (Some e) at)) (1 + in_expr e)
-value_return_good r e at = found_good (λ s. returned r s (Some e) at) (1 + in_expr e) (omega arith) (λ c few s seen k x h. value_return c few r s seen k e at x h)
+pub value_return_good : (r : Answer) (e : Expr) (at : At) → StatGood (λ s. return_or (returned r s (Some e) at)) (1 + in_expr e)
+value_return_good r e at = found_good (stats.Return None) (λ s. returned r s (Some e) at) (1 + in_expr e) (λ c. back_within c (1 + in_expr e) (omega arith)) (λ c few s seen k x h. value_return c few r s seen k e at x h)
 
 -- ---- values and conditions in parts
 

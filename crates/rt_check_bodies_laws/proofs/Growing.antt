@@ -12,11 +12,12 @@ use Rattle.rt_tree_nodes.specs.declared.statement.Branch.{Branch as BranchMade}
 use Rattle.rt_tree_nodes.specs.declared.statement.Labelled.{Labelled}
 use Rattle.rt_tree_nodes.specs.declared.value.Value.{Value}
 use Rattle.rt_exprs.specs.declared.fault.CheckFault.{CheckFault}
+use Rattle.rt_exprs.specs.declared.fault.CheckFault.TheVariants as fault
 use Rattle.rt_exprs.specs.Outcomes.{Outcome}
 use Rattle.rt_check_bodies.specs.declared.tally.Tally.{Tally}
-use Rattle.rt_check_bodies.specs.Parts.{Part, it_is, ◌>>=◌, noted, noted_if, with_local, next_local, number_next, found_or, label_or, mode_or, three_locals, label_more, labels_more, labels_in, numbers_from}
-use Rattle.rt_check_bodies.specs.Sights.{Names, Sight, label_in, value_in, within}
-use Rattle.rt_check_bodies.specs.Statements.{Line, Declared, labels_of, in_order, sequence, any_sequence, labels_at, labelled, int_in, any_int_in, start_in, placed, local_more, locals_more, line_more, declarations, JudgedBranch, branches, bounds_in, for_loop, to_loop, goto, switch}
+use Rattle.rt_check_bodies.specs.Parts.{Part, it_is, ◌>>=◌, noted, noted_known, noted_if, with_local, next_local, number_next, found_or, label_or, mode_or, three_locals, label_more, labels_more, labels_in, numbers_from}
+use Rattle.rt_check_bodies.specs.Sights.{Names, Sight, label_in, value_in, alone_in, within}
+use Rattle.rt_check_bodies.specs.Statements.{Line, Declared, labels_of, in_order, sequence, any_sequence, labels_at, labelled, int_in, any_int_in, start_in, start_alone, placed, local_more, locals_more, line_more, declarations, JudgedBranch, branches, bounds_in, for_loop, to_loop, goto, switch}
 
 pub record Pre {A : Type 0} (xs ys : List A) : Type 0 where
   pub more : List A
@@ -57,6 +58,29 @@ grow_then p f g h t = grew_then (g t) (h (p t).0 (p t).1)
 grew_noted : (g : CheckFault) (t : Tally) → Grew t (noted g t)
 grew_noted g t = record { locals = pre_same t.locals; faults = pre_one t.faults g }
 
+-- what can't be known isn't noted
+pub grew_known : (g : CheckFault) (t : Tally) → Grew t (noted_known g t)
+grew_known fault.Unknown t = grew_same t
+grew_known fault.Memory t = grew_noted fault.Memory t
+grew_known (fault.UnknownName at) t = grew_noted (fault.UnknownName at) t
+grew_known (fault.WrongMode at) t = grew_noted (fault.WrongMode at) t
+grew_known (fault.NotAssignable at) t = grew_noted (fault.NotAssignable at) t
+grew_known (fault.WrongCount at) t = grew_noted (fault.WrongCount at) t
+grew_known (fault.RefOfLocal at) t = grew_noted (fault.RefOfLocal at) t
+grew_known (fault.LeftOut form at) t = grew_noted (fault.LeftOut form at) t
+grew_known (fault.DeclaredTwice at) t = grew_noted (fault.DeclaredTwice at) t
+grew_known (fault.BadStart at) t = grew_noted (fault.BadStart at) t
+grew_known (fault.UnknownLabel at) t = grew_noted (fault.UnknownLabel at) t
+grew_known (fault.NoResult at) t = grew_noted (fault.NoResult at) t
+
+pub known_locals : (g : CheckFault) (t : Tally) → (noted_known g t).locals ≡ t.locals
+known_locals fault.Unknown t = refl
+known_locals _ t = refl
+
+pub known_labels : (g : CheckFault) (t : Tally) → (noted_known g t).labels ≡ t.labels
+known_labels fault.Unknown t = refl
+known_labels _ t = refl
+
 grew_noted_if : (b : Bool) (g : CheckFault) (t : Tally) → Grew t (noted_if b g t)
 grew_noted_if true g t = grew_noted g t
 grew_noted_if false g t = grew_same t
@@ -66,7 +90,7 @@ grew_local l t = record { locals = pre_one t.locals l; faults = pre_same t.fault
 
 pub grow_found : {A : Type 0} (other : A) (o : Outcome A) → Growing (found_or other o)
 grow_found other (Ok x) t = grew_same t
-grow_found other (Err g) t = grew_noted g t
+grow_found other (Err g) t = grew_known g t
 
 pub grow_mode : (o : Outcome Mode) → Growing (mode_or o)
 grow_mode (Ok m) t = grew_same t
@@ -111,8 +135,12 @@ grow_start s n m (Some e) t = grew_then (grow_found _ (value_in s e m) t) (grew_
 pub grow_placed : (k : ℕ) (m : Mode) (x : Option Value) (d : Declared) (n : Local) → Growing (placed k m x d n)
 grow_placed k m x d n t = grew_then (grew_noted_if _ _ t) (grew_local _ _)
 
+grew_alone : (s : Sight) (e : Option Expr) (t : Tally) → Grew t (start_alone s e t)
+grew_alone s None t = grew_same t
+grew_alone s (Some e) t = grew_known (alone_in s e) t
+
 pub grow_local : (m : Outcome Mode) (d : Declared) (n : Local) → Growing (local_more m d n)
-grow_local (Err g) d n t = grew_noted_if _ _ t
+grow_local (Err g) d n t = grew_then (grew_alone d.sight n.start t) (grew_noted_if _ _ _)
 grow_local (Ok m) d n t =
     let u : Option Value × Tally = start_in d.sight n.name m n.start t in
     grew_then (grow_start d.sight n.name m n.start t) (grow_placed (next_local u.1) m u.0 d n u.1)

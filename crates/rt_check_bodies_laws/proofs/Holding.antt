@@ -15,7 +15,10 @@ use Rattle.rt_exprs.specs.Operands.{or_else}
 use Rattle.rt_exprs.specs.Outcomes.{Outcome}
 use Rattle.rt_tree.specs.Statements.{Sight as Seen, sees, labels_from, sight_with}
 use Rattle.rt_exprs_laws.specs.Agreeing.{Agree, IsThere}
-use Rattle.rt_check_bodies_laws.specs.Held.{LabelSeen, EntryHolds, LevelHolds, LevelsHold, Holds}
+use Rattle.rt_check_bodies_laws.specs.Held.{LabelSeen, EntryHolds, LevelHolds, LevelsHold, Holds, IsKnown, LevelKnown, AllKnown}
+use Rattle.rt_check_bodies_laws.proofs.Knowing.{Knows}
+use Rattle.rt_check_bodies_laws.proofs.Certain.{sight_knows}
+use Rattle.rt_check_bodies_laws.proofs.Each.{one_more_each}
 use Rattle.rt_check_bodies.specs.Sights.{Names, Sight, holds, declared, within, innermost, with_name, scope_of, level_of, lent_name, label_in, label_by}
 
 left_or : (a b : Bool) → a ≡ true → a || b ≡ true
@@ -37,7 +40,8 @@ label_weakened first end seen (meaning.SvcItem b i m) h = tt
 label_weakened first end seen (meaning.Svc k m) h = tt
 label_weakened first end seen (meaning.Local k m) h = tt
 label_weakened first end seen (meaning.Loop k) h = tt
-label_weakened first end seen (meaning.Unfit g) h = tt
+label_weakened first end seen meaning.UnknownProc h = tt
+label_weakened first end seen meaning.Unknown h = tt
 
 module _ (c : Scope) where
   level_weakened : (first end : ℕ) (seen : Seen) (l : Names) → LevelHolds c seen l → LevelHolds c (sight_with seen (labels_from first end)) l
@@ -82,6 +86,24 @@ module _ (c : Scope) where
     strings = h.strings;
     levels = (declared_holds seen n m (innermost s.levels) (innermost_holds seen s.levels h.levels) e, outer_hold seen s.levels h.levels);
   }
+
+  -- ---- what is there, and can be known
+
+  pub record Shown (s : Sight) (seen : Seen) : Type 0 where
+    pub holds : Holds c s seen
+    pub known : AllKnown s
+
+  pub shown_within : (s : Sight) (seen : Seen) (l : Names) → Shown s seen → LevelHolds c seen l → LevelKnown l → Shown (within l s) seen
+  shown_within s seen l h k known = record { holds = holds_within s seen l h.holds k; known = (known, h.known) }
+
+  pub shown_labelled : (s : Sight) (seen : Seen) (first end : ℕ) (l : Names) → Shown s seen → LevelHolds c (sight_with seen (labels_from first end)) l → LevelKnown l → Shown (within l s) (sight_with seen (labels_from first end))
+  shown_labelled s seen first end l h k known = record { holds = holds_labelled s seen first end l h.holds k; known = (known, h.known) }
+
+  pub shown_named : (s : Sight) (seen : Seen) (n : List ℕ) (m : Meaning) → Shown s seen → EntryHolds c seen (n, m) → IsKnown m → Shown (with_name n m s) seen
+  shown_named s seen n m h e known = record { holds = holds_named s seen n m h.holds e; known = one_more_each IsKnown s n m h.known known }
+
+  pub shown_knows : (s : Sight) (seen : Seen) → Shown s seen → Knows (scope_of s)
+  shown_knows s seen h = sight_knows c s h.holds.records h.holds.fields h.known
 
   -- ---- what a name stands for
 

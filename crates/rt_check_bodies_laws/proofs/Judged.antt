@@ -1,5 +1,5 @@
 -- What is judged fit where names and tree agree stays within its items.
-use Rattle.std.proofs.Common.{◌≡◌, ◌+◌, true, Ok, refl, subst}
+use Rattle.std.proofs.Common.{◌≡◌, ◌+◌, true, Some, Ok, refl}
 use Rattle.rt_grammar.specs.declared.at.At.{At}
 use Rattle.rt_syntax_exprs.specs.declared.tree.Chain.{Chain}
 use Rattle.rt_syntax_exprs.specs.declared.tree.Cond.{Cond}
@@ -12,9 +12,9 @@ use Rattle.rt_tree_nodes.specs.declared.value.Value.{Value}
 use Rattle.rt_tree_nodes.specs.Scopes.{Scope}
 use Rattle.rt_tree_nodes.specs.Typing.{placed, valued}
 use Rattle.rt_exprs.specs.Modes.{want}
-use Rattle.rt_exprs.specs.Judging.{judged, target, val_target, alone}
-use Rattle.rt_exprs.proofs.Others.{SoundTarget, target_sound, SoundVal, val_target_sound, SoundCall, call_sound, SoundTest, cond_sound}
-use Rattle.rt_exprs.proofs.Sound.{SoundFit, sound_fit, expr_sound}
+use Rattle.rt_exprs.specs.Judging.{target, val_target, alone}
+use Rattle.rt_exprs.proofs.Judged.{fit_holds}
+use Rattle.rt_exprs.proofs.Others.{target_holds, val_holds, call_holds, test_holds}
 use Rattle.rt_tree.specs.Statements.{Sight as Seen, tested}
 use Rattle.rt_syntax_exprs.specs.Joins.{joins_two}
 use Rattle.rt_check_bodies.specs.Sights.{Sight, scope_of, value_in, test_in}
@@ -28,16 +28,16 @@ use Rattle.rt_check_bodies_laws.specs.Refs.{AllFew}
 module _ (c : Scope) (few : AllFew c) (s : Sight) (seen : Seen) (k : Holds c s seen) where
   pub value_judged : (e : Expr) (m : Mode) (x : Value) → value_in s e m ≡ Ok x → ValueWithin (in_expr e) (valued c x).tree
   value_judged e m x h =
-      fits_within c (scope_of s) (agrees c s seen k) few (subst (SoundFit (scope_of s) e (want m)) h (sound_fit (scope_of s) e (want m) (judged (scope_of s) e) (expr_sound (scope_of s) e))) m refl
+      fits_within c (scope_of s) (agrees c s seen k) few (fit_holds (scope_of s) e (want m) x h) m refl
 
-  pub target_judged : (h : Chain) (x : Place × Mode) → target (scope_of s) h ≡ Ok x → SpotWithin (in_chain h) (placed c x.0).tree
-  target_judged h x e = assigns_within c (scope_of s) (agrees c s seen k) few (subst (SoundTarget (scope_of s) h) e (target_sound (scope_of s) h))
+  pub target_judged : (h : Chain) (x : Place × Mode) → target (scope_of s) h ≡ Ok (Some x.0, x.1) → SpotWithin (in_chain h) (placed c x.0).tree
+  target_judged h x e = assigns_within c (scope_of s) (agrees c s seen k) few (target_holds (scope_of s) h (Some x.0, x.1) e)
 
-  pub val_judged : (at : At) (h : Chain) (x : Place × Mode) → val_target (scope_of s) at h ≡ Ok x → SpotWithin (1 + in_chain h) (placed c x.0).tree
-  val_judged at h x e = assigns_val_within c (scope_of s) (agrees c s seen k) few (subst (SoundVal (scope_of s) at h) e (val_target_sound (scope_of s) at h))
+  pub val_judged : (at : At) (h : Chain) (x : Place × Mode) → val_target (scope_of s) at h ≡ Ok (Some x.0, x.1) → SpotWithin (1 + in_chain h) (placed c x.0).tree
+  val_judged at h x e = assigns_val_within c (scope_of s) (agrees c s seen k) few (val_holds (scope_of s) at h (Some x.0, x.1) e)
 
   pub call_judged : (h : Chain) (x : Value) → alone (scope_of s) h ≡ Ok x → CallWithin (in_chain h) (valued c x).tree
-  call_judged h x e = call_is_within c (scope_of s) (agrees c s seen k) few (subst (SoundCall (scope_of s) h) e (call_sound (scope_of s) h))
+  call_judged h x e = call_is_within c (scope_of s) (agrees c s seen k) few (call_holds (scope_of s) h x e)
 
   pub test_judged : (d : Cond) (t : Test) → joins_two d ≡ true → test_in s d ≡ Ok t → ConditionWithin (in_cond d) (tested c t).tree
-  test_judged d t j e = test_within c (scope_of s) (agrees c s seen k) few (subst (SoundTest (scope_of s) d) e (cond_sound (scope_of s) d)) j
+  test_judged d t j e = test_within c (scope_of s) (agrees c s seen k) few (test_holds (scope_of s) d t e) j

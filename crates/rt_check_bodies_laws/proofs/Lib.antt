@@ -1,3 +1,8 @@
+pub mod Each
+pub mod Real
+pub mod Knowing
+pub mod Certain
+pub mod Faults
 pub mod Growing
 pub mod Holding
 pub mod Sequences

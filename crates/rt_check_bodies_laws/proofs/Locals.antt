@@ -24,11 +24,11 @@ use Rattle.rt_tree.specs.Statements.{Sight as Seen, starts_at_zero, start_tree, 
 use Rattle.rt_tree.specs.Weights.{sequence_weight}
 use Rattle.rt_check_bodies.specs.declared.tally.Tally.{Tally}
 use Rattle.rt_check_bodies.specs.Parts.{noted_if, next_local, mode_or}
-use Rattle.rt_check_bodies.specs.Sights.{Sight, holds, innermost, value_in, mode_in}
-use Rattle.rt_check_bodies.specs.Statements.{Declared, start_in, local_fit, local_more, locals_more, line_more, declarations}
+use Rattle.rt_check_bodies.specs.Sights.{Sight, holds, innermost, value_in, alone_in, mode_in}
+use Rattle.rt_check_bodies.specs.Statements.{Declared, start_in, start_alone, local_fit, local_more, locals_more, line_more, declarations}
 use Rattle.rt_check_bodies_laws.specs.Held.{Holds, EntryHolds}
 use Rattle.rt_check_bodies_laws.proofs.Accepted.{local_value}
-use Rattle.rt_check_bodies_laws.proofs.Growing.{Pre, pre_then, grow_locals, grow_declarations}
+use Rattle.rt_check_bodies_laws.proofs.Growing.{Pre, pre_then, known_locals, grow_locals, grow_declarations}
 use Rattle.rt_check_bodies_laws.proofs.Holding.{holds_named}
 use Rattle.rt_check_bodies_laws.proofs.Sequences.{one_longer, pre_length, pre_get, small_rest}
 use Rattle.rt_check_bodies_laws.specs.Parts.{StatementWithin}
@@ -49,8 +49,14 @@ pub start_locals : (s : Sight) (n : Ident) (m : Mode) (e : Option Expr) (t : Tal
 start_locals s n m None t = noted_locals (not (starts_at_zero (out-Mode m))) (fault.BadStart n.at) t
 start_locals s n m (Some e) t = found_locals (values.Number 0) (value_in s e m) t
 
+pub alone_locals : (s : Sight) (e : Option Expr) (t : Tally) → (start_alone s e t).locals ≡ t.locals
+alone_locals s None t = refl
+alone_locals s (Some e) t = known_locals (alone_in s e) t
+
 local_counts : (m : Outcome Mode) (d : Declared) (n : Local) (t : Tally) → length (local_more m d n t).1.locals ≤ length t.locals + in_local n
-local_counts (Err g) d n t = omega (arith, ap length (noted_locals (holds (innermost d.sight.levels) n.name.name) (fault.DeclaredTwice n.name.at) t))
+local_counts (Err g) d n t =
+    let u : Tally = start_alone d.sight n.start t in
+    omega (arith, ap length (noted_locals (holds (innermost d.sight.levels) n.name.name) (fault.DeclaredTwice n.name.at) u), ap length (alone_locals d.sight n.start t))
 local_counts (Ok m) d n t =
     let u : Option Value × Tally = start_in d.sight n.name m n.start t in
     let v : List Made = (noted_if (holds (innermost d.sight.levels) n.name.name) (fault.DeclaredTwice n.name.at) u.1).locals in
@@ -119,7 +125,7 @@ module _ (c : Scope) where
     }
 
     local_within : (m : Outcome Mode) (d : Declared) (n : Local) (seen : Seen) (t : Tally) → Holds c d.sight seen → Pre (local_more m d n t).1.locals c.locals → DeclaredWithin (in_local n) d seen (local_more m d n t).0
-    local_within (Err g) d n seen t k f = record { starts = []; is = sym (append-nil d.starts); within = no_starts (in_local n); holds = holds_named c d.sight seen n.name.name (meaning.Unfit g) k (tt, tt) }
+    local_within (Err g) d n seen t k f = record { starts = []; is = sym (append-nil d.starts); within = no_starts (in_local n); holds = holds_named c d.sight seen n.name.name meaning.Unknown k (tt, tt) }
     local_within (Ok m) d n seen t k f =
         let u : Option Value × Tally = start_in d.sight n.name m n.start t in
         let here : (local_fit m d n t).1.locals ≡ u.1.locals ++ made.Variable m ∷ [] = ap (λ (l : List Made). l ++ made.Variable m ∷ []) (noted_locals (holds (innermost d.sight.levels) n.name.name) (fault.DeclaredTwice n.name.at) u.1) in

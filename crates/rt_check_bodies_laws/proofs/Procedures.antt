@@ -122,7 +122,7 @@ module _ (s : Sight) (b : ProcedureBrick) where
         let fine_answers : Fine inner answers.1 = fine_before inner (good.grows (within heads.0 s) answers.1) fine_read in
         let fine_heads : Fine inner heads.1 = fine_before inner (grow_answer s b.at b.result heads.1) fine_answers in
         let seen : Seen = first_sight None 0 in
-        let level = parameters_fit inner small held.standing s [] b.fields seen nothing_yet tt fine_heads in
+        let level = parameters_fit inner small held.standing s [] b.fields seen nothing_yet tt tt fine_heads in
         let inside = holds_within inner s seen heads.0 (held.outside seen) level.level in
         let around : Around inner = record { small = small; standing = held.standing; few = all_few (scope_of p) (procedure s b).locals held.modes held.standing } in
         good.within inner around (within heads.0 s) seen answers.1 inside fine_read.known

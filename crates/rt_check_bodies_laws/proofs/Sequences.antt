@@ -4,6 +4,7 @@ use Rattle.std.specs.Prelude.{slice_get}
 use Rattle.std.proofs.lemmas.List.{append-nil}
 use Rattle.std.proofs.lemmas.Bool.Decides.{nat_tests}
 use Rattle.rt_grammar.specs.declared.at.Ident.{Ident}
+use Rattle.rt_modes.specs.declared.mode.Mode.{Mode}
 use Rattle.rt_tree_nodes.specs.declared.statement.Body.{Body}
 use Rattle.rt_tree_nodes.specs.declared.statement.Branch.{Branch}
 use Rattle.rt_tree_nodes.specs.declared.statement.Labelled.{Labelled, out-Labelled, roll-Labelled, map-Labelled}
@@ -13,18 +14,21 @@ use Rattle.rt_tree_nodes.specs.declared.statement.Stat.TheFolds.{fold_out-Labell
 use Rattle.rt_tree_nodes.specs.declared.statement.Stat.TheOpen.{Labelled-F}
 use Rattle.rt_tree_nodes.specs.Scopes.{Scope, with}
 use Rattle.rt_exprs.specs.declared.fault.CheckFault.{CheckFault}
+use Rattle.rt_exprs.specs.declared.fault.CheckFault.TheVariants as fault
 use Rattle.rt_exprs.specs.declared.scope.Meaning.TheVariants as meaning
-use Rattle.rt_exprs.specs.Outcomes.{Outcome}
+use Rattle.rt_exprs.specs.Outcomes.{Outcome, is_unknown}
 use Rattle.rt_tree.specs.Statements as tree
 use Rattle.rt_tree.specs.Statements.{Sight as Seen, Part as Fitting, Marked, next_by, counted, labels_end, labels_from, sight_with, then_part, stat_part, marked, marked_part}
 use Rattle.rt_check_bodies.specs.declared.tally.Tally.{Tally}
-use Rattle.rt_check_bodies.specs.Parts.{found_or, noted_if, noted_twice, with_label, behind, labels_more, numbers_from}
+use Rattle.rt_check_bodies.specs.Parts.{found_or, mode_or, noted_known, noted_if, noted_twice, with_label, behind, labels_more, numbers_from}
 use Rattle.rt_check_bodies.specs.Sights.{Names, Sight, holds, declared, within}
 use Rattle.rt_check_bodies.specs.declared.answer.Answer.{Answer}
 use Rattle.rt_check_bodies.specs.Statements.{Line, labels_of, labels_at, labelled, in_order, sequence}
 use Rattle.rt_check_bodies_laws.proofs.Growing.{Pre, pre_then, pre_none, Grew, LineGrows, LinesGrow, grow_order}
-use Rattle.rt_check_bodies_laws.specs.Held.{Holds, LevelHolds, ResultIs}
-use Rattle.rt_check_bodies_laws.proofs.Holding.{holds_labelled, declared_holds, label_of}
+use Rattle.rt_check_bodies_laws.specs.Held.{IsKnown, LevelHolds, ResultIs}
+use Rattle.rt_check_bodies_laws.proofs.Knowing.{Certain}
+use Rattle.rt_check_bodies_laws.proofs.Each.{all_labels_each}
+use Rattle.rt_check_bodies_laws.proofs.Holding.{Shown, shown_labelled, declared_holds, label_of}
 
 -- ---- lists that go on
 
@@ -60,9 +64,33 @@ pub one_is_there : {A : Type 0} (xs : List A) (x : A) → xs ++ x ∷ [] ≡ [] 
 one_is_there [] x e = cc
 one_is_there (y ∷ ys) x e = cc
 
-pub settled : {A : Type 0} (other : A) (o : Outcome A) (t : Tally) → (found_or other o t).1.faults ≡ [] → Settled other o t
-settled other (Ok x) t h = record { value = x; is = refl; gives = refl }
-settled other (Err g) t h = absurd (one_is_there t.faults g h)
+-- a fault is noted
+noted_there : (g : CheckFault) (t : Tally) → is_unknown g ≡ false → (noted_known g t).faults ≡ [] → ⊥
+noted_there fault.Unknown t n h = cc
+noted_there fault.Memory t n h = one_is_there t.faults fault.Memory h
+noted_there (fault.UnknownName at) t n h = one_is_there t.faults (fault.UnknownName at) h
+noted_there (fault.WrongMode at) t n h = one_is_there t.faults (fault.WrongMode at) h
+noted_there (fault.NotAssignable at) t n h = one_is_there t.faults (fault.NotAssignable at) h
+noted_there (fault.WrongCount at) t n h = one_is_there t.faults (fault.WrongCount at) h
+noted_there (fault.RefOfLocal at) t n h = one_is_there t.faults (fault.RefOfLocal at) h
+noted_there (fault.LeftOut form at) t n h = one_is_there t.faults (fault.LeftOut form at) h
+noted_there (fault.DeclaredTwice at) t n h = one_is_there t.faults (fault.DeclaredTwice at) h
+noted_there (fault.BadStart at) t n h = one_is_there t.faults (fault.BadStart at) h
+noted_there (fault.UnknownLabel at) t n h = one_is_there t.faults (fault.UnknownLabel at) h
+noted_there (fault.NoResult at) t n h = one_is_there t.faults (fault.NoResult at) h
+
+pub settled : {A : Type 0} (other : A) (o : Outcome A) (t : Tally) → Certain o → (found_or other o t).1.faults ≡ [] → Settled other o t
+settled other (Ok x) t n h = record { value = x; is = refl; gives = refl }
+settled other (Err g) t n h = absurd (noted_there g t n h)
+
+pub record ModeFound (o : Outcome Mode) (t : Tally) : Type 0 where
+  pub mode : Mode
+  pub is : o ≡ Ok mode
+  pub gives : mode_or o t ≡ (Ok mode, t)
+
+pub mode_found : (o : Outcome Mode) (t : Tally) → (mode_or o t).1.faults ≡ [] → ModeFound o t
+mode_found (Ok m) t f = record { mode = m; is = refl; gives = refl }
+mode_found (Err g) t f = absurd (one_is_there t.faults g f)
 
 -- ---- numbers of labels
 
@@ -147,7 +175,7 @@ module _ (c : Scope) where
       pub line : Line
       pub inner : ℕ
       pub grows : LineGrows line
-      pub fits : (s : Sight) (seen : Seen) (t : Tally) → Holds c s seen → ResultIs r seen.result → Fine (line.part s t).1 → t.labels + inner < 65536
+      pub fits : (s : Sight) (seen : Seen) (t : Tally) → Shown c s seen → ResultIs r seen.result → Fine (line.part s t).1 → t.labels + inner < 65536
           → Goes (marked_part c (option_map (stat_part c) (line.part s t).0)) seen t (line.part s t).1 × ((line.part s t).1.labels ≡ t.labels + inner)
 
     abbrev pub lines : List Known → List Line
@@ -180,7 +208,7 @@ module _ (c : Scope) where
       pub goes : Goes (tree.in_order (map (marked c) rows)) seen t result.1
       pub labels : result.1.labels ≡ t.labels + inner_labels ks
 
-    order_fits : (ks : List Known) (s : Sight) (seen : Seen) (k : ℕ) (done : List Labelled) (t : Tally) → Holds c s seen → ResultIs r seen.result → Fine (in_order s k done (lines ks) t).1
+    order_fits : (ks : List Known) (s : Sight) (seen : Seen) (k : ℕ) (done : List Labelled) (t : Tally) → Shown c s seen → ResultIs r seen.result → Fine (in_order s k done (lines ks) t).1
         → k + own (map labels_at (lines ks)) < 65536 → t.labels + inner_labels ks < 65536 → OrderFits ks seen k done t (in_order s k done (lines ks) t)
     order_fits [] s seen k done t h q f a b = record { rows = []; is = sym (append-nil done); ends = ap (λ (z : ℕ). Some z) (omega arith); goes = refl; labels = omega arith }
     order_fits (x ∷ ks) s seen k done t h q f a b =
@@ -207,14 +235,14 @@ module _ (c : Scope) where
     abbrev pub total : List Known → ℕ
     total ks = own (map labels_at (lines ks)) + inner_labels ks
 
-    pub sequence_fits : (ks : List Known) (s : Sight) (seen : Seen) (t : Tally) → Holds c s seen → ResultIs r seen.result → Fine (sequence s (lines ks) t).1 → t.labels + total ks < 65536
+    pub sequence_fits : (ks : List Known) (s : Sight) (seen : Seen) (t : Tally) → Shown c s seen → ResultIs r seen.result → Fine (sequence s (lines ks) t).1 → t.labels + total ks < 65536
         → Goes (tree.sequence (map (marked c) (sequence s (lines ks) t).0)) seen t (sequence s (lines ks) t).1 × ((sequence s (lines ks) t).1.labels ≡ t.labels + total ks)
     sequence_fits ks s seen t h q f b =
         let nss : List (List Ident) = map labels_at (lines ks) in
         let end : ℕ = t.labels + own nss in
         let u : Names × Tally = labels_of [] nss t in
         let d = all_labels_done seen t.labels end [] nss t (omega arith) (omega arith) (omega (arith, b)) tt in
-        let inside = holds_labelled c s seen t.labels end u.0 h d.level in
+        let inside = shown_labelled c s seen t.labels end u.0 h d.level (all_labels_each IsKnown (λ k. tt) [] nss t tt) in
         let go = order_fits ks (within u.0 s) (sight_with seen (labels_from t.labels end)) t.labels [] u.1 inside q f (omega (arith, b)) (omega (arith, b, d.labels)) in
         let rows_are : (sequence s (lines ks) t).0 ≡ go.rows = go.is in
         let start : next_by end (length t.locals) ≡ next_by u.1.labels (length u.1.locals) = rw (d.labels, d.locals) refl in (

@@ -20,7 +20,7 @@ use Rattle.rt_check_bodies.specs.declared.tally.Tally.{Tally}
 use Rattle.rt_check_bodies.specs.Parts.{Part, noted_if, next_local, three_locals, mode_or}
 use Rattle.rt_check_bodies.specs.Sights.{Names, Sight, holds, innermost, within, mode_in}
 use Rattle.rt_check_bodies.specs.declared.plain.Bounds.{Bounds}
-use Rattle.rt_check_bodies.specs.Statements.{Line, Declared, JudgedBranch, labels_of, labels_at, labelled, in_order, sequence, start_in, local_more, locals_more, line_more, declarations, branches, bounds_in, variable_of, for_loop, to_loop, int_in}
+use Rattle.rt_check_bodies.specs.Statements.{Line, Declared, JudgedBranch, labels_of, labels_at, labelled, in_order, sequence, start_in, start_alone, local_more, locals_more, line_more, declarations, branches, bounds_in, variable_of, for_loop, to_loop, int_in}
 use Rattle.rt_check_bodies.specs.Parts.{numbers_from}
 use Rattle.rt_bricks_laws.specs.Bodies.{all}
 use Rattle.rt_bricks_laws.specs.Modes.{locals_shallow}
@@ -28,7 +28,7 @@ use Rattle.rt_check_bodies_laws.specs.Named.{NamesRecords}
 use Rattle.rt_check_bodies_laws.proofs.Good.{int_locals}
 use Rattle.rt_check_bodies_laws.proofs.Inside.{bounds_locals}
 use Rattle.rt_check_bodies_laws.proofs.Lines.{all_labels_keep}
-use Rattle.rt_check_bodies_laws.proofs.Locals.{noted_locals, mode_locals, start_locals}
+use Rattle.rt_check_bodies_laws.proofs.Locals.{noted_locals, mode_locals, start_locals, alone_locals}
 use Rattle.rt_check_bodies_laws.proofs.Named.{mode_stands, declared_names, one_more_name, all_labels_named}
 
 left_of : (a b : Bool) → a && b ≡ true → a ≡ true
@@ -73,8 +73,8 @@ module _ (n : ℕ) where
 
   local_keeps : (m : Outcome Mode) → MayStand m → (d : Declared) (x : Local) (t : Tally) → NamesRecords n d.sight → Standing t → Kept (local_more m d x t)
   local_keeps (Err g) may d x t h k = record {
-    names = one_more_name n d.sight x.name.name (meaning.Unfit g) h tt;
-    locals = with_locals_same t (local_more (Err g) d x t).1 (noted_locals (holds (innermost d.sight.levels) x.name.name) (fault.DeclaredTwice x.name.at) t) k;
+    names = one_more_name n d.sight x.name.name meaning.Unknown h tt;
+    locals = with_locals_same t (local_more (Err g) d x t).1 (noted_locals (holds (innermost d.sight.levels) x.name.name) (fault.DeclaredTwice x.name.at) (start_alone d.sight x.start t) ∙ alone_locals d.sight x.start t) k;
   }
   local_keeps (Ok m) may d x t h k =
       let u : Option Value × Tally = start_in d.sight x.name m x.start t in

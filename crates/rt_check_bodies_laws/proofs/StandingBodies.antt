@@ -21,13 +21,14 @@ use Rattle.rt_tree_nodes.specs.declared.brick.Local.TheVariants as made
 use Rattle.rt_tree_nodes.specs.declared.statement.Body.{Body as BodyMade}
 use Rattle.rt_tree_nodes.specs.declared.statement.Stat.{Stat}
 use Rattle.rt_tree_nodes.specs.declared.statement.Stat.TheVariants as stats
+use Rattle.rt_tree_nodes.specs.declared.value.Value.TheVariants as values
 use Rattle.rt_tree_nodes.specs.declared.statement.Test.{Test}
 use Rattle.rt_exprs.specs.declared.fault.CheckFault.TheVariants as fault
 use Rattle.rt_exprs.specs.declared.scope.Meaning.TheVariants as meaning
 use Rattle.rt_exprs.specs.Outcomes.{Outcome}
 use Rattle.rt_tree.specs.Modules.{local_stands}
 use Rattle.rt_check_bodies.specs.declared.tally.Tally.{Tally}
-use Rattle.rt_check_bodies.specs.Parts.{noted_if, next_local, mode_or, stat_or, test_or}
+use Rattle.rt_check_bodies.specs.Parts.{noted_if, next_local, mode_or, found_or, test_or}
 use Rattle.rt_check_bodies.specs.Sights.{Names, Sight, holds, within, mode_in, call_in, assignment_in, val_assignment_in, label_in, test_in}
 use Rattle.rt_check_bodies.specs.declared.answer.Answer.{Answer}
 use Rattle.rt_check_bodies.specs.Procedures.{named, group, parameters, answer_in, closed_at, nothing_yet}
@@ -53,8 +54,8 @@ right_of false b e = absurd cc
 
 module _ (n : ℕ) where
   -- a found statement adds no locals
-  found_keeps : (o : Sight → Outcome Stat) → Keeps n (λ s. stat_or (o s))
-  found_keeps o s t h k = with_locals_same n t (stat_or (o s) t).1 (found_locals (stats.Return None) (o s) t) k
+  found_keeps : (other : Stat) (o : Sight → Outcome Stat) → Keeps n (λ s. found_or other (o s))
+  found_keeps other o s t h k = with_locals_same n t (found_or other (o s) t).1 (found_locals other (o s) t) k
 
   as_stat : {p q : JudgedStat} → p ≡ q → Keeps n q → Keeps n p
   as_stat e g = subst (λ (z : JudgedStat). Keeps n z) (sym e) g
@@ -140,11 +141,11 @@ module _ (n : ℕ) where
 
     simple_level : (x : Simple) (y : Simple-F SimplePair BodyPair BranchPair LinePair)
         → out-Simple x ≡ map-Simple SimplePair BodyPair BranchPair LinePair Simple Body Branch Stmt (λ e. e.0) (λ e. e.0) (λ e. e.0) (λ e. e.0) y → SimpleM x
-    simple_level x (Simple-F.Call h) o b = as_stat (stat_at x (Simple-F.Call h) o) (found_keeps (λ s. call_in s h))
-    simple_level x (Simple-F.Assign h e at) o b = as_stat (stat_at x (Simple-F.Assign h e at) o) (found_keeps (λ s. assignment_in s h e))
-    simple_level x (Simple-F.AssignVal h e at) o b = as_stat (stat_at x (Simple-F.AssignVal h e at) o) (found_keeps (λ s. val_assignment_in s at h e))
+    simple_level x (Simple-F.Call h) o b = as_stat (stat_at x (Simple-F.Call h) o) (found_keeps (stats.Call (values.Number 0)) (λ s. call_in s h))
+    simple_level x (Simple-F.Assign h e at) o b = as_stat (stat_at x (Simple-F.Assign h e at) o) (found_keeps (stats.Call (values.Number 0)) (λ s. assignment_in s h e))
+    simple_level x (Simple-F.AssignVal h e at) o b = as_stat (stat_at x (Simple-F.AssignVal h e at) o) (found_keeps (stats.Call (values.Number 0)) (λ s. val_assignment_in s at h e))
     simple_level x (Simple-F.Goto i at) o b = as_stat (stat_at x (Simple-F.Goto i at) o) (goto_keeps i)
-    simple_level x (Simple-F.Return e at) o b = as_stat (stat_at x (Simple-F.Return e at) o) (found_keeps (λ s. returned r s e at))
+    simple_level x (Simple-F.Return e at) o b = as_stat (stat_at x (Simple-F.Return e at) o) (found_keeps (stats.Return None) (λ s. returned r s e at))
     simple_level x (Simple-F.Switch e is at) o b =
         as_stat (stat_at x (Simple-F.Switch e is at) o) (λ s t h k. with_locals_same n t (spec.switch s e is t).1 (labels_locals s [] is (int_in s e t).1 ∙ int_locals s e t) k)
     simple_level x (Simple-F.Block p at) o b = as_stat (stat_at x (Simple-F.Block p.0 at) o) (p.1 (sym (low_at x (Simple-F.Block p.0 at) o) ∙ b))
@@ -231,7 +232,7 @@ module _ (n : ℕ) where
 
   named_keeps : (m : Outcome Mode) → MayStand n m → (l : Names) (i : Ident) (t : Tally) → Given (l, t) → Given (named l i m t)
   named_keeps (Err g) may l i t k = (
-    declared_names n i.name (meaning.Unfit g) l k.0 tt,
+    declared_names n i.name meaning.Unknown l k.0 tt,
     with_locals_same n t (noted_if (holds l i.name) (fault.DeclaredTwice i.at) t) (noted_locals (holds l i.name) (fault.DeclaredTwice i.at) t) k.1,
   )
   named_keeps (Ok m) may l i t k =

@@ -9,14 +9,15 @@ use Rattle.rt_tree.specs.Modules.{local_stands, proc_fits}
 use Rattle.rt_tree.specs.Statements.{Sight as Seen}
 use Rattle.rt_check_bodies.specs.Sights.{Sight}
 use Rattle.rt_check_bodies.specs.Procedures.{parameters, answer_in, nothing_yet, procedure, faults}
-use Rattle.rt_check_bodies_laws.specs.Held.{Holds, ResultIs}
+use Rattle.rt_check_bodies_laws.specs.Held.{Holds, AllKnown, ResultIs}
 use Rattle.rt_bricks_laws.specs.Bodies.{labels_in_body, body_is_broad}
 
 -- What must hold of a procedure b, of what is seen where it stands, and of the modes of its parameters and result, over the
 -- scope c of its module.
 pub record IsReady (c : Scope) (s : Sight) (b : ProcedureBrick) (ms : List Mode) (r : Option Mode) : Type 0 where
-  -- what is seen outside the procedure is there in the tree
+  -- what is seen outside the procedure is there in the tree, and can be known
   pub outside : (seen : Seen) → Holds (with_locals c (procedure s b).locals) s seen
+  pub known : AllKnown s
   -- its locals have numbers of 16 bits, and their modes may stand
   pub few : length (procedure s b).locals < 65536
   pub standing : list_all (local_stands (length c.records)) (procedure s b).locals ≡ true

@@ -1,5 +1,6 @@
 -- What the nodes of a procedure see is there in the tree.
 use Rattle.std.specs.Prelude.{◌≡◌, ℕ, true, List, [], ◌∷◌, length, Option, Some, None, slice_get}
+use Rattle.std.specs.List.{AllByRecursion}
 use Rattle.rt_modes.specs.declared.mode.Mode.{Mode}
 use Rattle.rt_modes.specs.declared.mode.RecordDef.{RecordDef}
 use Rattle.rt_tree_nodes.specs.Scopes.{Scope}
@@ -33,6 +34,21 @@ module _ (c : Scope) where
     pub fields : (r : ℕ) (d : RecordDef) → slice_get c.records r ≡ Some d → HasItems d
     pub strings : length (set_of s.strings).keys ≡ c.strings
     pub levels : LevelsHold seen s.levels
+
+-- ---- what can be known
+
+-- the mode of what a name stands for can be known
+abbrev pub IsKnown : Meaning → Type 0
+IsKnown meaning.UnknownProc = ⊥
+IsKnown meaning.Unknown = ⊥
+IsKnown _ = Unit {0}
+
+abbrev pub LevelKnown : Names → Type 0
+LevelKnown = AllByRecursion (λ x. IsKnown x.1)
+
+-- nothing is seen whose mode can't be known
+abbrev pub AllKnown : Sight → Type 0
+AllKnown s = AllByRecursion LevelKnown s.levels
 
 -- ---- the result of the procedure
 

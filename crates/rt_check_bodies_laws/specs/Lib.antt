@@ -1,5 +1,6 @@
 pub mod Held
 pub mod Fitting
+pub mod Faults
 pub mod Refs
 pub mod Parts
 pub mod Weights

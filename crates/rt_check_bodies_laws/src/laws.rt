@@ -1,15 +1,21 @@
 //! The laws, as the contracts of functions that do nothing.
 
 ghost use Rattle.rt_check_bodies_laws.specs.Fitting.{ProceduresFit};
+ghost use Rattle.rt_check_bodies_laws.specs.Faults.{FaultsAreKnown};
 ghost use Rattle.rt_check_bodies_laws.specs.Standing.{WrittenModesStand};
 ghost use Rattle.rt_check_bodies_laws.specs.Weights.{ValuesStayWithin, TargetsStayWithin, ValTargetsStayWithin, CallsStayWithin, TestsStayWithin};
 ghost use Rattle.rt_check_bodies_laws.specs.Within.{LocalsAreFew, ProceduresAreWithin, ModulesAreWithin, BoundsStayWithin};
 ghost use Rattle.rt_check_bodies_laws.specs.Named.{LocalsStand};
 
-/// Where no fault stands in a procedure, its tree is one that a typed module may have: numbers of locals and labels, jumps,
+/// Where no fault stands in a procedure, and nothing is seen outside it whose mode can't be known, its tree is one that a typed module may have: numbers of locals and labels, jumps,
 /// results, starts and each node fit, and a body with a result is closed.
 pub fn what_is_judged_fits()
     ensures { ProceduresFit }
+{}
+
+/// What stands in a procedure is a fault, and never what can't be known.
+pub fn faults_are_known()
+    ensures { FaultsAreKnown }
 {}
 
 /// The mode that is written at a place may stand there, where no more modes open and no more REF stand in a row than may, and

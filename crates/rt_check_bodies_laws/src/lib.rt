@@ -2,7 +2,7 @@
 //! contracts are the laws.
 //!
 //! - A procedure in which no fault stands fits in the typed tree: `specs/Held.antt` says where what is seen is there in the
-//!   tree, `specs/Fitting.antt` has the law, and `specs/Standing.antt` that of written modes.
+//!   tree and can be known, `specs/Fitting.antt` has the law, `specs/Faults.antt` that what stands in one is a fault, and `specs/Standing.antt` that of written modes.
 //! - What the checker makes of an expression weighs no more than its items allow: `specs/Refs.antt` says how many REFs may
 //!   stand in a row in a mode, `specs/Parts.antt` which parts stay within so many items, and `specs/Weights.antt` has the
 //!   laws.
@@ -13,6 +13,6 @@
 mod laws;
 
 pub use laws::{
-    bounds_stay_within, locals_are_few, locals_stand, modules_are_within, procedures_are_within,
-    what_fits_stays_within, what_is_judged_fits, written_modes_stand,
+    bounds_stay_within, faults_are_known, locals_are_few, locals_stand, modules_are_within,
+    procedures_are_within, what_fits_stays_within, what_is_judged_fits, written_modes_stand,
 };

@@ -18,7 +18,7 @@ use Rattle.rt_check_declared.specs.declared.parts.Line.TheVariants as line
 use Rattle.rt_modes.specs.declared.mode.Mode.TheVariants as mode
 use Rattle.rt_modes.specs.declared.mode.Field.{Field}
 use Rattle.rt_exprs.specs.declared.fault.CheckFault.{CheckFault}
-use Rattle.rt_check_declared.specs.Fields.{faults_by, fit_fields, mode_faults}
+use Rattle.rt_check_declared.specs.Fields.{faults_by, written_fields, mode_faults}
 use Rattle.rt_check_declared.specs.Heads.{noted}
 use Rattle.rt_check_declared.proofs.RecordSteps.{drop_next, more_faults, first_noted, noted_some}
 use Rattle.rt_check_declared.specs.declared.site.Site.TheVariants as site
@@ -85,11 +85,11 @@ module _ (names : Names) (p : ProcedureBrick) where
       d ∙ ap (λ (x : Option Line). with_faults f (optional_faults x p.name)) c ∙ result_noted p.name p.result f ∙ ap (λ (x : Option CheckFault). with_faults x (result_faults names p.name p.result)) b
       ∙ more_faults None (mode_faults names site.Variable ls) (result_faults names p.name p.result) ∙ ap (λ (x : List Fields). with_faults None (mode_faults names site.Variable x ++ result_faults names p.name p.result)) a
 
-  pub procedure_given : (ls : List Fields) (fs gs : List Field) (n : Option CheckFault) (l : Option Line) (g : Given) → ls ≡ p.fields → fs ≡ fit_fields names site.Variable ls → gs ≡ fs → n ≡ with_faults None (procedure_faults names p) → l ≡ result_line names p.result
+  pub procedure_given : (ls : List Fields) (fs gs : List Field) (n : Option CheckFault) (l : Option Line) (g : Given) → ls ≡ p.fields → fs ≡ written_fields names site.Variable ls → gs ≡ fs → n ≡ with_faults None (procedure_faults names p) → l ≡ result_line names p.result
       → g ≡ headed n gs (result_by l) → g ≡ procedure names p
   procedure_given ls fs gs n l g a b c d e is =
-      is ∙ ap (λ (x : Option CheckFault). headed x gs (result_by l)) d ∙ ap (λ (x : List Field). headed (with_faults None (procedure_faults names p)) x (result_by l)) (c ∙ b ∙ ap (fit_fields names site.Variable) a)
-      ∙ ap (λ (x : Option Line). headed (with_faults None (procedure_faults names p)) (fit_fields names site.Variable p.fields) (result_by x)) e
+      is ∙ ap (λ (x : Option CheckFault). headed x gs (result_by l)) d ∙ ap (λ (x : List Field). headed (with_faults None (procedure_faults names p)) x (result_by l)) (c ∙ b ∙ ap (written_fields names site.Variable) a)
+      ∙ ap (λ (x : Option Line). headed (with_faults None (procedure_faults names p)) (written_fields names site.Variable p.fields) (result_by x)) e
 
 -- ---- one more declaration
 

@@ -5,13 +5,13 @@ use Rattle.rt_bricks.specs.declared.tree.Declaration.{Declaration}
 use Rattle.rt_bricks.specs.declared.tree.RecordMode.{RecordMode}
 use Rattle.rt_modes.specs.declared.mode.RecordDef.{RecordDef}
 use Rattle.rt_exprs.specs.declared.fault.CheckFault.{CheckFault}
-use Rattle.rt_exprs.specs.Outcomes.{IsLeast, sooner, is_before, item_of, number_of}
+use Rattle.rt_exprs.specs.Outcomes.{IsLeast, sooner, is_before}
 use Rattle.rt_sizes.specs.Capped.{AreSizes, table}
 use Rattle.rt_sizes.specs.Sizes.{Table}
 use Rattle.rt_sizes.specs.declared.size.Size.{Size}
 use Rattle.rt_check_declared.specs.Verdicts.{IsIn, with_fault, with_faults, GatheredCounts}
 use Rattle.rt_check_declared.specs.Written.{Names}
-use Rattle.rt_check_declared.proofs.Joins.{through_before}
+use Rattle.rt_exprs.proofs.Counting.{before_through}
 use Rattle.rt_check_declared.proofs.Least.{gathers_least}
 use Rattle.rt_check_declared.specs.declared.records.Head.{Head}
 use Rattle.rt_check_declared.specs.Heads.{head, heads, definitions, all_noted, all_known}
@@ -133,7 +133,7 @@ module _ (names : Names) (t : Table) (rs : List RecordMode) (us : List Fault) (a
   join_by None e = λ g s. let b = before_of g s in subst (λ (x : List CheckFault). IsIn b.0 x) e b.1
   join_by (Some g) least = record {
     stands = stands_of g least.stands;
-    least = λ h s. let b = before_of h s in through_before (item_of g) (number_of g) (item_of b.0) (number_of b.0) (item_of h) (number_of h) (least.least b.0 b.1) b.2;
+    least = λ h s. let b = before_of h s in before_through g b.0 h (least.least b.0 b.1) b.2;
   }
 
   pub joined : Counts StandsIn (all_noted None us)

@@ -33,8 +33,8 @@ field_step a b ps i p f m h e has named moded is kept =
     ∙ ap (λ (x : Option (List Field)). joined a x) (sym (ap (λ (x : Given). with_field p.name x (all_fields (drop (i + 1) ps))) has ∙ same_field p.name m f named moded (all_fields (drop (i + 1) ps))))
     ∙ ap (λ (x : List Part). joined a (all_fields x)) (sym (drop_next ps i p h e)) ∙ kept
 
-pub unfit_step : (a : List Field) (ps : List Part) (i : ℕ) (p : Part) (g : CheckFault) → i < length ps → p ≡ get_or ps i p → p.has ≡ given.Unfit g → joined a (all_fields (drop i ps)) ≡ all_fields ps → None ≡ all_fields ps
-unfit_step a ps i p g h e has kept =
+pub unknown_step : (a : List Field) (ps : List Part) (i : ℕ) (p : Part) → i < length ps → p ≡ get_or ps i p → p.has ≡ given.Unknown → joined a (all_fields (drop i ps)) ≡ all_fields ps → None ≡ all_fields ps
+unknown_step a ps i p h e has kept =
     sym (ap (λ (x : List Part). joined a (all_fields x)) (drop_next ps i p h e) ∙ ap (λ (x : Given). joined a (with_field p.name x (all_fields (drop (i + 1) ps)))) has) ∙ kept
 
 -- ---- the fault that counts

@@ -2,21 +2,11 @@
 use Rattle.std.proofs.Common.{◌≡◌, Bool, true, false, List, [], ◌∷◌, Option, Some, None, Result, Ok, Err, inl, inr, refl, sym, ap, ◌∙◌, subst}
 use Rattle.std.specs.Prelude.{IfOk, IfErr, IsTrue}
 use Rattle.rt_exprs.specs.declared.fault.CheckFault.{CheckFault}
-use Rattle.rt_exprs.specs.declared.fault.CheckFault.TheVariants.{Memory, UnknownName, WrongMode, NotAssignable, WrongCount, RefOfLocal, LeftOut, DeclaredTwice, BadStart, UnknownLabel, NoResult}
-use Rattle.rt_exprs.specs.Outcomes.{Outcome, sooner, is_before, item_of, number_of}
-use Rattle.rt_exprs.specs.Outcomes.{IsLeast, Settles, IsAnswered}
+use Rattle.rt_exprs.specs.Outcomes.{Outcome, sooner, is_before, UnlessMemory, IsLeast, IsAnswered}
 use Rattle.rt_check_declared.specs.Verdicts.{Verdict, fit, unfit, first_of, outcome, IsIn, Stands, Answers, with_faults, GatheredCounts, GathersLeast}
-use Rattle.rt_check_declared.proofs.Joins.{same_before, through_before, total_before, sooner_yes, sooner_no, sooner_assoc}
-use Rattle.rt_exprs.proofs.Joins.{told}
-
-before_itself : (f : CheckFault) → is_before f f ≡ true
-before_itself f = same_before (item_of f) (number_of f)
-
-through : (f g h : CheckFault) → is_before f g ≡ true → is_before g h ≡ true → is_before f h ≡ true
-through f g h = through_before (item_of f) (number_of f) (item_of g) (number_of g) (item_of h) (number_of h)
-
-turned : (f g : CheckFault) → is_before f g ≡ false → is_before g f ≡ true
-turned f g = total_before (item_of f) (number_of f) (item_of g) (number_of g)
+use Rattle.rt_check_declared.proofs.Joins.{sooner_yes, sooner_no, sooner_assoc}
+use Rattle.rt_exprs.proofs.Joins.{told, given, free}
+use Rattle.rt_exprs.proofs.Counting.{before_same, before_through, before_turned}
 
 stands_by : (f x : CheckFault) (gs : List CheckFault) (b : Bool) → is_before f x ≡ b → IsIn x gs → IsIn (sooner f x) (f ∷ gs)
 stands_by f x gs true e k = inl (sooner_yes f x e)
@@ -27,37 +17,21 @@ stands_first f [] = inl refl
 stands_first f (g ∷ gs) = stands_by f (first_of g gs) (g ∷ gs) (is_before f (first_of g gs)) refl (stands_first g gs)
 
 before_left : (f x : CheckFault) (b : Bool) → is_before f x ≡ b → is_before (sooner f x) f ≡ true
-before_left f x true e = ap (λ (g : CheckFault). is_before g f) (sooner_yes f x e) ∙ before_itself f
-before_left f x false e = ap (λ (g : CheckFault). is_before g f) (sooner_no f x e) ∙ turned f x e
+before_left f x true e = ap (λ (g : CheckFault). is_before g f) (sooner_yes f x e) ∙ before_same f
+before_left f x false e = ap (λ (g : CheckFault). is_before g f) (sooner_no f x e) ∙ before_turned f x e
 
 before_right : (f x h : CheckFault) (b : Bool) → is_before f x ≡ b → is_before x h ≡ true → is_before (sooner f x) h ≡ true
-before_right f x h true e k = ap (λ (g : CheckFault). is_before g h) (sooner_yes f x e) ∙ through f x h e k
+before_right f x h true e k = ap (λ (g : CheckFault). is_before g h) (sooner_yes f x e) ∙ before_through f x h e k
 before_right f x h false e k = ap (λ (g : CheckFault). is_before g h) (sooner_no f x e) ∙ k
 
 least_first : (f : CheckFault) (fs : List CheckFault) (h : CheckFault) → IsIn h (f ∷ fs) → is_before (first_of f fs) h ≡ true
-least_first f [] h (inl e) = subst (λ (g : CheckFault). is_before f g ≡ true) (sym e) (before_itself f)
+least_first f [] h (inl e) = subst (λ (g : CheckFault). is_before f g ≡ true) (sym e) (before_same f)
 least_first f [] h (inr k) = absurd k
 least_first f (g ∷ gs) h (inl e) = subst (λ (x : CheckFault). is_before (sooner f (first_of g gs)) x ≡ true) (sym e) (before_left f (first_of g gs) (is_before f (first_of g gs)) refl)
 least_first f (g ∷ gs) h (inr k) = before_right f (first_of g gs) h (is_before f (first_of g gs)) refl (least_first g gs h k)
 
 is_true : (b : Bool) → b ≡ true → IsTrue b
 is_true b e = e
-
-settled : (Stands : CheckFault → Type 0) (g : CheckFault) → IsLeast Stands g → Settles Stands g
-settled Stands Memory h = tt
-settled Stands (UnknownName at) h = h
-settled Stands (WrongMode at) h = h
-settled Stands (NotAssignable at) h = h
-settled Stands (WrongCount at) h = h
-settled Stands (RefOfLocal at) h = h
-settled Stands (LeftOut form at) h = h
-settled Stands (DeclaredTwice at) h = h
-settled Stands (BadStart at) h = h
-settled Stands (UnknownLabel at) h = h
-settled Stands (NoResult at) h = h
-
-settled_memory : (Stands : CheckFault → Type 0) (g : CheckFault) → g ≡ Memory → Settles Stands g
-settled_memory Stands g e = subst (λ (h : CheckFault). Settles Stands h) (sym e) tt
 
 abbrev err_of : {A : Type 0} → CheckFault → Outcome A
 err_of p = Err p
@@ -98,11 +72,11 @@ least_by : {A : Type 0} (v : Verdict A) (g : CheckFault) → outcome v ≡ Err g
 least_by (fit a) g s = absurd (no_ok a g s)
 least_by (unfit f fs) g s = least_of f fs g (same_err (first_of f fs) g s)
 
-pub answer_settles : {A : Type 0} (v : Verdict A) (r : Result A CheckFault) → Answers (λ x. x) r v → IfErr r (Settles (Stands v))
-answer_settles v (Ok x) h = tt
-answer_settles v (Err g) h = elim (told g (outcome v ≡ Err g) h) [
-  | inl m ↦ settled_memory (Stands v) g m
-  | inr s ↦ settled (Stands v) g (least_by v g s)
+pub answer_counts : {A : Type 0} (v : Verdict A) (r : Result A CheckFault) → Answers (λ x. x) r v → IfErr r (λ g. UnlessMemory g (IsLeast (Stands v) g))
+answer_counts v (Ok x) h = tt
+answer_counts v (Err g) h = elim (told g (outcome v ≡ Err g) h) [
+  | inl m ↦ free g (IsLeast (Stands v) g) m
+  | inr s ↦ given g (IsLeast (Stands v) g) (least_by v g s)
 ]
 
 -- ---- faults that are gathered

@@ -4,6 +4,7 @@ pub mod ModeSteps
 pub mod Adding
 pub mod Tables
 pub mod Walks
+pub mod Counted
 pub mod RecordSteps
 pub mod Judged
 pub mod Joined

@@ -1,12 +1,12 @@
 -- Faults that are noted, and one more line of fields.
 use Rattle.std.proofs.Common.{◌≡◌, ℕ, ◌+◌, ◌<◌, false, List, [], ◌∷◌, ◌++◌, Option, Some, None, Err, length, drop, get_or, refl, sym, ap, ◌∙◌, add-one, append_assoc, map}
 use Rattle.std.proofs.Math.Seq.{drop-cons}
-use Rattle.std.proofs.lemmas.List.{append-nil}
 use Rattle.rt_grammar.specs.declared.at.Ident.{Ident}
 use Rattle.rt_bricks.specs.declared.tree.Fields.{Fields}
 use Rattle.rt_modes.specs.declared.mode.Field.{Field}
+use Rattle.rt_modes.specs.declared.mode.Mode.TheVariants as mode
 use Rattle.rt_exprs.specs.declared.fault.CheckFault.{CheckFault}
-use Rattle.rt_exprs.specs.declared.fault.CheckFault.TheVariants.{Memory, UnknownName, WrongMode, NotAssignable, WrongCount, RefOfLocal, LeftOut, DeclaredTwice, BadStart, UnknownLabel, NoResult}
+use Rattle.rt_exprs.specs.declared.fault.CheckFault.TheVariants.{Memory, UnknownName, WrongMode, NotAssignable, WrongCount, RefOfLocal, LeftOut, DeclaredTwice, BadStart, UnknownLabel, NoResult, Unknown}
 use Rattle.rt_exprs.specs.Outcomes.{Outcome, UnlessMemory, sooner}
 use Rattle.rt_check_declared.specs.declared.site.Site.{Site}
 use Rattle.rt_check_declared.specs.declared.written.Resolved.{Resolved}
@@ -17,7 +17,7 @@ use Rattle.rt_bricks.specs.declared.tree.Declaration.{Declaration}
 use Rattle.rt_bricks.specs.declared.tree.Declaration.TheVariants as declares
 use Rattle.rt_bricks.specs.declared.tree.RecordMode.{RecordMode}
 use Rattle.rt_grammar.specs.declared.at.At.{At}
-use Rattle.rt_check_declared.specs.Fields.{is_memory, fields_by, faults_by, fit_fields, mode_faults, idents}
+use Rattle.rt_check_declared.specs.Fields.{is_memory, fields_of_mode, fields_by, faults_by, written_fields, mode_faults, idents}
 use Rattle.rt_check_declared.specs.Names.{second_fields}
 use Rattle.rt_check_declared.specs.declared.site.Site.TheVariants as site
 use Rattle.rt_check_declared.specs.Heads.{noted, head}
@@ -48,10 +48,10 @@ err_of f = Err f
 same_fault : (f g : CheckFault) → err_of f ≡ Err g → f ≡ g
 same_fault f g e = cc
 
--- a mode in which faults stand has no field, and the fault that counts is noted
-pub noted_fields : (v : Verdict Resolved) (ids : List Ident) (fs : List Field) (g : CheckFault) → outcome v ≡ Err g → fs ≡ fs ++ fields_by v ids
-noted_fields (fit r) ids fs g e = absurd cc
-noted_fields (unfit f gs) ids fs g e = sym (append-nil fs)
+-- Where faults stand in a mode, its names have LABEL, and the fault that counts is noted.
+pub noted_fields : (v : Verdict Resolved) (ids : List Ident) (fs gs : List Field) (g : CheckFault) → outcome v ≡ Err g → gs ≡ fs ++ fields_of_mode mode.Label ids → gs ≡ fs ++ fields_by v ids
+noted_fields (fit r) ids fs gs g e is = absurd cc
+noted_fields (unfit f hs) ids fs gs g e is = is
 
 pub noted_fault : (v : Verdict Resolved) (ids : List Ident) (o n : Option CheckFault) (g : CheckFault) → n ≡ with_fault o g → outcome v ≡ Err g → n ≡ with_faults o (faults_by v ids)
 noted_fault (fit r) ids o n g is e = absurd cc
@@ -69,14 +69,15 @@ is_fault P (DeclaredTwice at) e h = h
 is_fault P (BadStart at) e h = h
 is_fault P (UnknownLabel at) e h = h
 is_fault P (NoResult at) e h = h
+is_fault P Unknown e h = h
 
 -- ---- one more line
 
 module _ (names : Names) (site : Site) where
-  pub fields_step : (a b : List Field) (ls : List Fields) (i : ℕ) (l : Fields) → i < length ls → l ≡ get_or ls i l → b ≡ a ++ fields_by (written names l.mode site) l.names → a ++ fit_fields names site (drop i ls) ≡ fit_fields names site ls
-      → b ++ fit_fields names site (drop (i + 1) ls) ≡ fit_fields names site ls
+  pub fields_step : (a b : List Field) (ls : List Fields) (i : ℕ) (l : Fields) → i < length ls → l ≡ get_or ls i l → b ≡ a ++ fields_by (written names l.mode site) l.names → a ++ written_fields names site (drop i ls) ≡ written_fields names site ls
+      → b ++ written_fields names site (drop (i + 1) ls) ≡ written_fields names site ls
   fields_step a b ls i l h e is kept =
-      rw (is, append_assoc) (sym (ap (λ (x : List Fields). a ++ fit_fields names site x) (drop_next ls i l h e)) ∙ kept)
+      rw (is, append_assoc) (sym (ap (λ (x : List Fields). a ++ written_fields names site x) (drop_next ls i l h e)) ∙ kept)
 
   pub faults_step : (a b o : Option CheckFault) (ls : List Fields) (i : ℕ) (l : Fields) → i < length ls → l ≡ get_or ls i l → b ≡ with_faults a (faults_by (written names l.mode site) l.names)
       → with_faults a (mode_faults names site (drop i ls)) ≡ o → with_faults b (mode_faults names site (drop (i + 1) ls)) ≡ o
@@ -128,6 +129,6 @@ noted_some o (f ∷ fs) = noted_more o f fs
 pub noted_both : (fs gs : List CheckFault) → noted (with_faults None fs) (with_faults None gs) ≡ with_faults None (fs ++ gs)
 noted_both fs gs = noted_some (with_faults None fs) gs ∙ more_faults None fs gs
 
-pub head_made : (names : Names) (r : RecordMode) (ls : List Fields) (ats : List At) (f g h : Option CheckFault) → ls ≡ r.fields → ats ≡ map (λ i. i.at) (idents ls) → f ≡ with_faults None (mode_faults names site.Item ls) → g ≡ with_faults None (second_fields ls)
-    → h ≡ noted f g → record { at = r.name.at; fields = ats; fault = h } ≡ head names r
-head_made names r ls ats f g h a b c d e = rw (e, c, d, b, a, noted_both (mode_faults names site.Item r.fields) (second_fields r.fields)) refl
+pub head_made : (names : Names) (r : RecordMode) (ls : List Fields) (ats : List At) (f g : Option CheckFault) → ls ≡ r.fields → ats ≡ map (λ i. i.at) (idents ls) → f ≡ with_faults None (mode_faults names site.Item ls) → g ≡ with_faults None (second_fields ls)
+    → record { at = r.name.at; fields = ats; fault = f; second = g } ≡ head names r
+head_made names r ls ats f g a b c d = rw (c, d, b, a) refl

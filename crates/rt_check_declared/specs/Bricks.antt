@@ -15,7 +15,7 @@ use Rattle.rt_tree_nodes.specs.declared.brick.Kind.{Kind}
 use Rattle.rt_tree_nodes.specs.declared.brick.Kind.TheVariants as kind
 use Rattle.rt_exprs.specs.declared.fault.CheckFault.{CheckFault}
 use Rattle.rt_exprs.specs.declared.fault.CheckFault.TheVariants as fault
-use Rattle.rt_check_declared.specs.Fields.{fit_fields, mode_faults, faults_by}
+use Rattle.rt_check_declared.specs.Fields.{written_fields, mode_faults, faults_by}
 use Rattle.rt_check_declared.specs.declared.site.Site.TheVariants as site
 use Rattle.rt_check_declared.specs.Verdicts.{with_faults}
 use Rattle.rt_check_declared.specs.Written.{Names, written}
@@ -38,10 +38,10 @@ import_kind import.Service = kind.Svc
 abbrev pub stack_faults : StackBrick → List CheckFault
 stack_faults s = if nat_le 1 s.length && nat_le s.length 28672 then [] else fault.BadStart s.name.at ∷ []
 
--- a procedure's mode, where no fault stands in its heading
+-- a procedure's mode, where no fault stands in its heading; else it can't be known
 abbrev pub headed : Option CheckFault → List Field → Option Mode → Given
 headed None fs r = given.Mode (mode.Proc (map (λ f. f.mode) fs) r)
-headed (Some f) fs r = given.Unfit f
+headed (Some f) fs r = given.Unknown
 
 abbrev pub result_by : Option Line → Option Mode
 result_by (Some (line.Mode m)) = Some m
@@ -53,7 +53,7 @@ optional_faults (Some l) i = line_faults l (i ∷ [])
 
 -- bricks of other modules
 abbrev pub imported_procedure : Kind → Line → Ident → Heading
-imported_procedure k l i = record { kind = k; name = i.name; sort = sort.Procedure (given_by l i.at) }
+imported_procedure k l i = record { kind = k; name = i.name; sort = sort.Procedure (given_by l) }
 
 abbrev pub imported_stack : Ident → Heading
 imported_stack i = record { kind = kind.Ext; name = i.name; sort = sort.Stack 0 }
@@ -75,7 +75,7 @@ module _ (names : Names) where
   procedure_faults p = mode_faults names site.Variable p.fields ++ result_faults p.name p.result
 
   abbrev pub procedure : ProcedureBrick → Given
-  procedure p = headed (with_faults None (procedure_faults p)) (fit_fields names site.Variable p.fields) (result_by (result_line p.result))
+  procedure p = headed (with_faults None (procedure_faults p)) (written_fields names site.Variable p.fields) (result_by (result_line p.result))
 
   -- the bricks of a declaration
   abbrev pub bricks_in : Declaration → List Heading

@@ -3,6 +3,8 @@ use Rattle.std.specs.Prelude.{Bool, true, false, List, [], ◌∷◌, ◌++◌, 
 use Rattle.rt_grammar.specs.declared.at.Ident.{Ident}
 use Rattle.rt_bricks.specs.declared.tree.Fields.{Fields}
 use Rattle.rt_modes.specs.declared.mode.Field.{Field}
+use Rattle.rt_modes.specs.declared.mode.Mode.{Mode}
+use Rattle.rt_modes.specs.declared.mode.Mode.TheVariants as mode
 use Rattle.rt_exprs.specs.declared.fault.CheckFault.{CheckFault}
 use Rattle.rt_exprs.specs.declared.fault.CheckFault.TheVariants as fault
 use Rattle.rt_check_declared.specs.declared.site.Site.{Site}
@@ -16,11 +18,14 @@ abbrev pub is_memory : CheckFault → Bool
 is_memory fault.Memory = true
 is_memory _ = false
 
--- the fields of these names, where their mode is fit
+abbrev pub fields_of_mode : Mode → List Ident → List Field
+fields_of_mode m ids = map (λ i. record { name = i.name; mode = m }) ids
+
+-- The fields of these names. Where their mode is unfit it can't be known; LABEL, which no field may have, stands for that.
 abbrev pub fields_by : Verdict Resolved → List Ident → List Field
-fields_by (fit (resolved.Mode m)) ids = map (λ i. record { name = i.name; mode = m }) ids
-fields_by (fit resolved.BadLength) ids = []
-fields_by (unfit f fs) ids = []
+fields_by (fit (resolved.Mode m)) ids = fields_of_mode m ids
+fields_by (fit resolved.BadLength) ids = fields_of_mode mode.Label ids
+fields_by (unfit f fs) ids = fields_of_mode mode.Label ids
 
 -- the faults of their mode: an array whose length is out of range is a fault at each name
 abbrev pub faults_by : Verdict Resolved → List Ident → List CheckFault
@@ -29,10 +34,10 @@ faults_by (fit resolved.BadLength) ids = map (λ i. fault.BadStart i.at) ids
 faults_by (unfit f fs) ids = f ∷ fs
 
 module _ (names : Names) (site : Site) where
-  -- the fields that are declared with a fit mode
-  abbrev pub fit_fields : List Fields → List Field
-  fit_fields [] = []
-  fit_fields (g ∷ gs) = fields_by (written names g.mode site) g.names ++ fit_fields gs
+  -- the fields, each with its mode as far as it can be known
+  abbrev pub written_fields : List Fields → List Field
+  written_fields [] = []
+  written_fields (g ∷ gs) = fields_by (written names g.mode site) g.names ++ written_fields gs
 
   -- the faults of all modes
   abbrev pub mode_faults : List Fields → List CheckFault

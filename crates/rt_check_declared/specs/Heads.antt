@@ -9,6 +9,7 @@ use Rattle.rt_check_declared.specs.Verdicts.{with_fault, with_faults}
 use Rattle.rt_check_declared.specs.Written.{Names}
 use Rattle.rt_check_declared.specs.declared.records.Head.{Head}
 use Rattle.rt_check_declared.specs.Fields.{idents}
+use Rattle.rt_check_declared.specs.Names.{second_fields}
 use Rattle.rt_check_declared.specs.Records.{definition, field_faults}
 
 -- the fault that counts of two, where there are any
@@ -18,7 +19,7 @@ noted f (Some g) = with_fault f g
 
 module _ (names : Names) where
   abbrev pub head : RecordMode → Head
-  head r = record { at = r.name.at; fields = map (λ i. i.at) (idents r.fields); fault = with_faults None (field_faults names r) }
+  head r = record { at = r.name.at; fields = map (λ i. i.at) (idents r.fields); fault = with_faults None (field_faults names r); second = with_faults None (second_fields r.fields) }
 
   abbrev pub heads : List RecordMode → List Head
   heads rs = map head rs

@@ -1,6 +1,5 @@
 pub mod Verdicts
 pub mod Written
-pub mod Unfit
 pub mod Names
 pub mod Naming
 pub mod Fields

@@ -32,14 +32,14 @@ line_by (fit (resolved.Mode m)) = line.Mode m
 line_by (fit resolved.BadLength) = line.BadLength
 line_by (unfit f fs) = line.Unfit (first_of f fs)
 
--- what a name behind it is declared with: a length out of range is a fault of each name
-abbrev pub given_by : Line → At → Given
-given_by (line.Mode m) at = given.Mode m
-given_by line.BadLength at = given.Unfit (fault.BadStart at)
-given_by (line.Unfit f) at = given.Unfit f
+-- what a name behind it is declared with
+abbrev pub given_by : Line → Given
+given_by (line.Mode m) = given.Mode m
+given_by line.BadLength = given.Unknown
+given_by (line.Unfit f) = given.Unknown
 
 abbrev pub part : Line → Ident → Part
-part l i = record { name = i.name; at = i.at; has = given_by l i.at }
+part l i = record { name = i.name; at = i.at; has = given_by l }
 
 -- the faults of a line, those of an unfit mode by the one that counts
 abbrev pub line_faults : Line → List Ident → List CheckFault

@@ -14,7 +14,7 @@ use Rattle.rt_sizes.specs.Sizes.{Table, PassWith}
 use Rattle.rt_check_declared.specs.declared.site.Site.TheVariants as site
 use Rattle.rt_check_declared.specs.Verdicts.{IsIn}
 use Rattle.rt_check_declared.specs.Written.{Names}
-use Rattle.rt_check_declared.specs.Fields.{fit_fields, mode_faults, idents}
+use Rattle.rt_check_declared.specs.Fields.{written_fields, mode_faults, idents}
 
 -- the MODEs of a module
 abbrev pub record_modes : List Declaration → List RecordMode
@@ -27,23 +27,28 @@ has_none [] = true
 has_none (f ∷ fs) = false
 
 module _ (names : Names) where
-  -- a record with those of its fields that have a fit mode
+  -- a record, of whose fields each has its mode as far as it can be known
   abbrev pub definition : RecordMode → RecordDef
-  definition r = record { name = r.name.name; fields = fit_fields names site.Item r.fields }
+  definition r = record { name = r.name.name; fields = written_fields names site.Item r.fields }
 
-  -- the faults inside a MODE: of its fields' modes, and of their names
+  -- the faults of the modes of its fields
   abbrev pub field_faults : RecordMode → List CheckFault
-  field_faults r = mode_faults names site.Item r.fields ++ second_fields r.fields
+  field_faults r = mode_faults names site.Item r.fields
 
-  -- The records; the fields of one are all known where its MODE holds no fault.
+  -- The records; the fields of one are all known where the mode of none holds a fault.
   abbrev pub table : List Declaration → Table
   table ds = record { records = map definition (record_modes ds); known = map (λ r. has_none (field_faults r)) (record_modes ds) }
 
-  -- fault g stands in MODE k, which is r: a MODE that holds a fault isn't judged itself
+  -- Fault g stands in the modes of the fields of MODE k, which is r, or in the record as a whole. Where a mode is unfit that isn't judged.
+  pub data ModeFault (t : Table) (k : ℕ) (r : RecordMode) : CheckFault → Type 0 where
+    in_fields : {g : CheckFault} → IsIn g (field_faults r) → ModeFault t k r g
+    in_itself : field_faults r ≡ [] → Contains t.records k k → ModeFault t k r (fault.DeclaredTwice r.name.at)
+    too_large : {i : ℕ} {f : Ident} → field_faults r ≡ [] → (Contains t.records k k → ⊥) → PassWith t (written_fields names site.Item r.fields) i → slice_get (idents r.fields) i ≡ Some f → ModeFault t k r (fault.BadStart f.at)
+
+  -- It stands there, or is a second name of a field, which makes no MODE unfit.
   pub data RecordFault (t : Table) (k : ℕ) (r : RecordMode) : CheckFault → Type 0 where
-    in_fields : {g : CheckFault} → IsIn g (field_faults r) → RecordFault t k r g
-    in_itself : field_faults r ≡ [] → Contains t.records k k → RecordFault t k r (fault.DeclaredTwice r.name.at)
-    too_large : {i : ℕ} {f : Ident} → field_faults r ≡ [] → (Contains t.records k k → ⊥) → PassWith t (fit_fields names site.Item r.fields) i → slice_get (idents r.fields) i ≡ Some f → RecordFault t k r (fault.BadStart f.at)
+    of_modes : {g : CheckFault} → ModeFault t k r g → RecordFault t k r g
+    of_names : {g : CheckFault} → IsIn g (second_fields r.fields) → RecordFault t k r g
 
   -- a fault stands in some MODE of the module
   abbrev pub Stands : List Declaration → CheckFault → Type 0

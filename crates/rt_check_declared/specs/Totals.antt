@@ -10,9 +10,9 @@ use Rattle.rt_sizes.specs.Sizes.{Table, PassWith}
 
 abbrev pub with_field : List ℕ → Given → Option (List Field) → Option (List Field)
 with_field n (given.Mode m) fs = option_map (λ rest. record { name = n; mode = m } ∷ rest) fs
-with_field n (given.Unfit f) fs = None
+with_field n given.Unknown fs = None
 
--- the items as fields, where none is unfit
+-- the items as fields, where the modes of all are known
 abbrev pub all_fields : List Part → Option (List Field)
 all_fields [] = Some []
 all_fields (p ∷ ps) = with_field p.name p.has (all_fields ps)

@@ -219,7 +219,7 @@ fn add_named_procedures(
         let heading = Heading {
             kind,
             name: name.name.copy(alloc)?,
-            sort: Sort::Procedure(declared_with(alloc, line, name.at)?),
+            sort: Sort::Procedure(declared_with(alloc, line)?),
         };
         bricks.push(heading)?;
     }

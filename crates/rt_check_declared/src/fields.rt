@@ -19,9 +19,9 @@ use std::alloc::Global;
 /// Fields that are found one after another.
 #[derive(Drop)]
 pub struct Found {
-    /// Those that are declared with a fit mode.
+    /// All, those with an unfit mode as LABEL, which no field has: their modes can't be known.
     pub fields: List<Field>,
-    /// The fault that counts of the modes of the others.
+    /// The fault that counts of their modes.
     pub fault: Option<CheckFault>,
 }
 
@@ -33,7 +33,7 @@ pub fn read_fields(
     site: Site,
     levels: &[Level<'_>],
 ) -> Result<Found, Memory>
-    ensures fields { IfOk result (λ f. f.fields ≡ spec.fit_fields (find_in levels.now) site lines.now) }
+    ensures fields { IfOk result (λ f. f.fields ≡ spec.written_fields (find_in levels.now) site lines.now) }
     ensures fault { IfOk result (λ f. f.fault ≡ with_faults None (spec.mode_faults (find_in levels.now) site lines.now)) }
 {
     let mut found = Found {
@@ -61,7 +61,12 @@ fn read_line(
         Ok(resolved) => add_resolved(alloc, resolved, line.names.as_slice(), found),
         Err(fault) => {
             note_unless_memory(fault, &mut found.fault)?;
-            Ok(())
+            add_fields(
+                alloc,
+                &Mode::Label,
+                line.names.as_slice(),
+                &mut found.fields,
+            )
         }
     }
 }
@@ -95,7 +100,7 @@ fn add_resolved(
         Resolved::Mode(mode) => add_fields(alloc, &mode, names, &mut found.fields),
         Resolved::BadLength => {
             note_lengths(names, &mut found.fault);
-            Ok(())
+            add_fields(alloc, &Mode::Label, names, &mut found.fields)
         }
     }
 }

@@ -5,11 +5,11 @@ ghost use Rattle.rt_bricks.specs.declared.tree.RecordMode.{RecordMode};
 ghost use Rattle.rt_modes.specs.FullMode.{fields_in};
 ghost use Rattle.rt_check_declared.specs.Heads as spec;
 ghost use Rattle.rt_check_declared.specs.Heads.{whole};
-ghost use Rattle.rt_check_declared.specs.Records.{Counts, RecordFault, definition};
+ghost use Rattle.rt_check_declared.specs.Records.{Counts, ModeFault, RecordFault, definition};
 ghost use Rattle.rt_sizes.specs.Capped.{AreSizes, table};
 ghost use Rattle.rt_check_declared.specs.Written.{Names};
 
-use crate::records::Head;
+use crate::records::{Head, either};
 use rt_exprs::CheckFault;
 use rt_grammar::At;
 use rt_modes::{Field, RecordDef};
@@ -26,6 +26,20 @@ pub fn judge_record(
     head: &Head,
 ) -> Result<Option<CheckFault>, Memory>
     ensures { (names : Names) → (known : List Bool) → (r : RecordMode) → AreSizes (table records.now known) sizes.now → head.now ≡ spec.head names r → slice_get records.now number ≡ Some (definition names r) → IfOk result (Counts (RecordFault names (table records.now known) number r)) }
+{
+    let fault = judge_modes(alloc, records, sizes, number, head)?;
+    Ok(either(fault, head.second))
+}
+
+/// The fault that counts of the modes of a MODE's fields and of the record as a whole.
+fn judge_modes(
+    alloc: Global,
+    records: &[RecordDef],
+    sizes: &[Option<Size>],
+    number: usize,
+    head: &Head,
+) -> Result<Option<CheckFault>, Memory>
+    ensures { (names : Names) → (known : List Bool) → (r : RecordMode) → AreSizes (table records.now known) sizes.now → head.now ≡ spec.head names r → slice_get records.now number ≡ Some (definition names r) → IfOk result (Counts (ModeFault names (table records.now known) number r)) }
 {
     match head.fault {
         Some(fault) => Ok(Some(fault)),

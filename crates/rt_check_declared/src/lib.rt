@@ -2,8 +2,8 @@
 //! scopes, modes and bricks); and the fault that counts of each.
 //!
 //! - `specs/Written.antt` says which mode is written at a place, by the names that are seen there: a fold over what is
-//!   written, whose result is the mode, or all faults that stand in it ([`resolve`], `specs/Verdicts.antt`). [`unfit_record`]
-//!   says whether a mode leads to a record whose declaration is unfit; [`both`] and [`after`] join what is judged apart.
+//!   written, whose result is the mode, or all faults that stand in it ([`resolve`], `specs/Verdicts.antt`). [`both`] and
+//!   [`after`] join what is judged apart.
 //! - `specs/Names.antt` has all names in their order, of which the first of each spelling counts, and a fault at each other
 //!   one ([`declared_names`]).
 //! - `specs/Fields.antt` has the names that are declared with a mode, and `specs/Records.antt` the MODEs of a module: a
@@ -27,7 +27,6 @@ mod procedures;
 mod records;
 mod site;
 mod totals;
-mod unfit;
 mod written;
 
 pub use bricks::{Bricks, Heading, Sort, read_bricks};
@@ -41,5 +40,4 @@ pub use parts::{Given, Part};
 pub use records::either;
 pub use site::Site;
 pub use totals::{fields_of, large_item};
-pub use unfit::unfit_record;
 pub use written::{Resolved, resolve};

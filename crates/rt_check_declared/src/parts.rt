@@ -23,8 +23,8 @@ use std::alloc::Global;
 #[derive(Drop)]
 pub enum Given {
     Mode(Mode),
-    /// Its declaration is unfit, by this fault.
-    Unfit(CheckFault),
+    /// A mode that can't be known, since what is written for it is unfit.
+    Unknown,
 }
 
 /// A field, an item or a parameter.
@@ -85,13 +85,12 @@ fn unfit_line(fault: CheckFault) -> Result<Line, Memory>
 }
 
 /// What a name is declared with.
-pub fn declared_with(alloc: Global, line: &Line, at: At) -> Result<Given, Memory>
-    ensures { IfOk result (λ g. g ≡ spec.given_by line.now at) }
+pub fn declared_with(alloc: Global, line: &Line) -> Result<Given, Memory>
+    ensures { IfOk result (λ g. g ≡ spec.given_by line.now) }
 {
     match line {
         Line::Mode(mode) => Ok(Given::Mode(copy_mode(alloc, mode)?)),
-        Line::BadLength => Ok(Given::Unfit(CheckFault::BadStart(at))),
-        Line::Unfit(fault) => Ok(Given::Unfit(*fault)),
+        Line::BadLength | Line::Unfit(_) => Ok(Given::Unknown),
     }
 }
 
@@ -102,7 +101,7 @@ fn add_part(alloc: Global, line: &Line, name: &Ident, parts: &mut List<Part>) ->
     let part = Part {
         name: name.name.copy(alloc)?,
         at: name.at,
-        has: declared_with(alloc, line, name.at)?,
+        has: declared_with(alloc, line)?,
     };
     parts.push(part)
 }

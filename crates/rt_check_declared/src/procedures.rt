@@ -88,7 +88,7 @@ fn headed(
     ensures { IfOk result (λ g. g ≡ spec.headed fault fields.now (spec.result_by answer.now)) }
 {
     match fault {
-        Some(fault) => Ok(Given::Unfit(fault)),
+        Some(_) => Ok(Given::Unknown),
         None => {
             let modes = modes_of(alloc, fields)?;
             let answer = result_mode(alloc, answer)?;

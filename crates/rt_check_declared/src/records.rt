@@ -23,8 +23,10 @@ pub struct Head {
     pub at: At,
     /// Where its fields stand.
     pub fields: List<At>,
-    /// The fault that counts of those inside it.
+    /// The fault that counts of its fields' modes.
     pub fault: Option<CheckFault>,
+    /// The fault that counts of its fields' names.
+    pub second: Option<CheckFault>,
 }
 
 /// The records of a module as far as their MODEs are read one by one.
@@ -81,7 +83,7 @@ fn read_mode(
 {
     let lines = mode.fields.as_slice();
     let found = read_fields(alloc, lines, Site::Item, levels)?;
-    let fault = either(found.fault, second_fields(alloc, lines)?);
+    let second = second_fields(alloc, lines)?;
     let name = mode.name.name.copy(alloc)?;
     read.records.push(RecordDef {
         name,
@@ -89,7 +91,12 @@ fn read_mode(
     })?;
     let at = mode.name.at;
     let fields = places(alloc, lines)?;
-    read.heads.push(Head { at, fields, fault })?;
+    read.heads.push(Head {
+        at,
+        fields,
+        fault: found.fault,
+        second,
+    })?;
     Ok(())
 }
 

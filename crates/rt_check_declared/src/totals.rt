@@ -41,7 +41,7 @@ pub fn fields_of(alloc: Global, parts: &[Part]) -> Result<Option<List<Field>>, M
                 let mode = copy_mode(alloc, mode)?;
                 fields.push(Field { name, mode })?;
             }
-            Given::Unfit(_) => return Ok(None),
+            Given::Unknown => return Ok(None),
         }
     }
     Ok(Some(fields))

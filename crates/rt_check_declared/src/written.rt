@@ -3,7 +3,7 @@
 ghost use Rattle.std.specs.Prelude.{◌≡◌, [], List, Option, map, option_map, IfOk, IfErr};
 ghost use Rattle.std.specs.Option.{option_copied};
 ghost use Rattle.rt_modes.specs.declared.mode.Mode.{out-Mode};
-ghost use Rattle.rt_exprs.specs.Outcomes.{Settles, IsAnswered};
+ghost use Rattle.rt_exprs.specs.Outcomes.{UnlessMemory, IsLeast, IsAnswered};
 ghost use Rattle.rt_exprs.specs.Names.{find_in};
 ghost use Rattle.rt_check_declared.specs.Verdicts.{Verdict, fit, Stands, Answers, all_from};
 ghost use Rattle.rt_check_declared.specs.Written as spec;
@@ -42,7 +42,7 @@ pub fn resolve(
     // What is written is answered, unless memory runs out.
     ensures only { (r : Resolved) → spec.written (find_in levels.now) written.now site ≡ fit r → IsAnswered r result }
     // A fault stands, and counts of all that stand.
-    ensures fault { IfErr result (Settles (Stands (spec.written (find_in levels.now) written.now site))) }
+    ensures fault { IfErr result (λ g. UnlessMemory g (IsLeast (Stands (spec.written (find_in levels.now) written.now site)) g)) }
     // It is the mode that is written, or the fault that counts.
     ensures value { Answers (λ r. r) result (spec.written (find_in levels.now) written.now site) }
 {

@@ -13,7 +13,7 @@ use Rattle.rt_check_declared.specs.declared.bricks.Heading.{Heading}
 use Rattle.rt_check_declared.specs.Bricks.{brick_faults}
 use Rattle.rt_check_declared.specs.Totals.{LargeFault}
 use Rattle.rt_check_starts.specs.Bricks.{BrickFault}
-use Rattle.rt_check_module.specs.Tree.{Faults, items_in, Somewhere, modes_seen, records, headings, sight}
+use Rattle.rt_check_module.specs.Tree.{items_in, Somewhere, modes_seen, records, headings, sight}
 
 module _ (s : Sight) where
   -- a fault stands in what a declaration's brick holds, or in it as a whole
@@ -23,10 +23,10 @@ module _ (s : Sight) where
   Inside t g h (declares.Procedure p) = IsIn g (faults s p)
   Inside t g h _ = ⊥
 
-module _ (ds : List Declaration) (us : Faults) where
+module _ (ds : List Declaration) where
   -- a fault stands somewhere in the module
   pub data Stands : CheckFault → Type 0 where
     in_names : {g : CheckFault} → IsIn g (name_faults ds) → Stands g
     in_modes : {g : CheckFault} → StandsInModes (modes_seen ds) ds g → Stands g
     in_bricks : {g : CheckFault} → IsIn g (brick_faults (modes_seen ds) ds) → Stands g
-    inside : {g : CheckFault} → Somewhere (Inside (sight ds us) (records ds) g) (headings ds us) ds → Stands g
+    inside : {g : CheckFault} → Somewhere (Inside (sight ds) (records ds) g) (headings ds) ds → Stands g

@@ -77,7 +77,7 @@ own_item own.Streams j = stream_item j
 
 abbrev pub brick_by : ℕ → Sort → Meaning
 brick_by b (sort.Procedure (given.Mode m)) = meaning.Proc b m
-brick_by b (sort.Procedure (given.Unfit g)) = meaning.Unfit g
+brick_by b (sort.Procedure given.Unknown) = meaning.UnknownProc
 brick_by b (sort.Items ps) = meaning.Data b
 brick_by b (sort.Stack n) = meaning.Stack b
 
@@ -96,7 +96,7 @@ item_with k (Some (Some o)) b j m = meaning.Svc (own_item o j) m
 item_with k _ b j m = if is_svc k then other_item b j m (out-Mode m) else meaning.Item b j m
 
 abbrev pub given_as : Kind → Option (Option Own) → ℕ → ℕ → Given → Meaning
-given_as k o b j (given.Unfit g) = meaning.Unfit g
+given_as k o b j given.Unknown = meaning.Unknown
 given_as k o b j (given.Mode m) = item_with k o b j m
 
 abbrev pub item_by : Kind → Option (Option Own) → ℕ → ℕ → Option Part → Meaning

@@ -9,7 +9,6 @@ use Rattle.rt_tree_nodes.specs.declared.brick.Brick.{Brick}
 use Rattle.rt_tree_nodes.specs.declared.brick.BrickSort.{BrickSort}
 use Rattle.rt_tree_nodes.specs.declared.brick.BrickSort.TheVariants as brick_sort
 use Rattle.rt_tree_nodes.specs.declared.brick.ModuleParts.{ModuleParts}
-use Rattle.rt_exprs.specs.declared.fault.CheckFault.{CheckFault}
 use Rattle.rt_exprs.specs.Names.{find_in}
 use Rattle.rt_sizes.specs.Sizes.{Table}
 use Rattle.rt_check_declared.specs.Written.{Names}
@@ -18,7 +17,7 @@ use Rattle.rt_check_bodies.specs.Sights.{Sight, level_of, scope_of}
 use Rattle.rt_check_bodies.specs.Sights.{Names as Level}
 use Rattle.rt_check_bodies.specs.Procedures.{procedure}
 use Rattle.rt_check_declared.specs.Names.{bricks_in, scope}
-use Rattle.rt_check_declared.specs.Records.{AllCount, record_modes, table}
+use Rattle.rt_check_declared.specs.Records.{table}
 use Rattle.rt_check_declared.specs.declared.bricks.Heading.{Heading}
 use Rattle.rt_check_declared.specs.declared.bricks.Sort.{Sort}
 use Rattle.rt_check_declared.specs.declared.bricks.Sort.TheVariants as sort
@@ -26,16 +25,10 @@ use Rattle.rt_check_declared.specs.declared.parts.Given.TheVariants as given
 use Rattle.rt_check_declared.specs.declared.parts.Part.{Part}
 use Rattle.rt_check_declared.specs.Bricks.{bricks}
 use Rattle.rt_check_declared.specs.Totals.{all_fields}
-use Rattle.rt_check_module.specs.Leads.{AreLed}
 use Rattle.rt_check_module.specs.Levels.{mode_names, module_names}
-use Rattle.rt_check_module.specs.Settled.{settled}
 use Rattle.rt_check_starts.specs.Items.{brick_starts}
 use Rattle.rt_check_starts.specs.Strings.{brick_texts}
 use Rattle.rt_check_module.specs.declared.filling.Filling.{Filling}
-
--- of each record a fault, where there is one
-abbrev pub Faults : Type 0
-Faults = List (Option CheckFault)
 
 -- what names stand for where these are declared
 abbrev pub seen : Level → Names
@@ -74,14 +67,8 @@ module _ (ds : List Declaration) where
   abbrev pub records : Table
   records = table modes_seen ds
 
-  abbrev pub declared : List Heading
-  declared = bricks modes_seen ds
-
-  -- Of each record the fault to which it leads, where one stands in it or in a record to which it leads.
-  pub record Led (us : Faults) : Type 0 where
-    pub alone : Faults
-    pub counts : AllCount modes_seen records (record_modes ds) alone
-    pub led : AreLed records.records alone us
+  abbrev pub headings : List Heading
+  headings = bricks modes_seen ds
 
 -- ---- the strings of a module, in the order of their items
 
@@ -107,7 +94,7 @@ or_none (Some fs) = fs
 -- Where a heading is unfit there is no brick: a stack of no words stands for it.
 abbrev pub sort_by : Sort → Filling → BrickSort
 sort_by (sort.Procedure (given.Mode m)) f = brick_sort.Proc m f.body
-sort_by (sort.Procedure (given.Unfit g)) f = brick_sort.Stack 0
+sort_by (sort.Procedure given.Unknown) f = brick_sort.Stack 0
 sort_by (sort.Items ps) f = brick_sort.Data (or_none (all_fields ps)) f.starts
 sort_by (sort.Stack n) f = brick_sort.Stack n
 
@@ -129,33 +116,28 @@ module _ (s : Sight) where
 
 -- ---- the whole
 
-module _ (ds : List Declaration) (us : Faults) where
-  -- The bricks, of which those are unfit whose modes lead to an unfit record.
-  abbrev pub headings : List Heading
-  headings = map (settled us) (declared ds)
-
+module _ (ds : List Declaration) where
   abbrev pub texts : Texts
-  texts = texts_from (records ds).records [] headings ds
+  texts = texts_from (records ds).records [] (headings ds) ds
 
   -- what a declaration sees
   abbrev pub sight : Sight
   sight = record {
     records = (records ds).records;
-    unfit = us;
     strings = map (λ t. t.0) texts;
-    levels = module_names headings (scope ds) ∷ [];
+    levels = module_names (headings ds) (scope ds) ∷ [];
   }
 
   abbrev pub fillings : List Filling
-  fillings = gathered (fillings_in sight) headings ds
+  fillings = gathered (fillings_in sight) (headings ds) ds
 
   abbrev pub tree_bricks : List Brick
-  tree_bricks = filled headings fillings
+  tree_bricks = filled (headings ds) fillings
 
-abbrev pub tree : Module → Faults → ModuleParts
-tree m us = record {
+abbrev pub tree : Module → ModuleParts
+tree m = record {
   title = m.title;
   modes = record { records = (records m.declarations).records };
-  bricks = tree_bricks m.declarations us;
-  strings = map (λ t. t.1) (texts m.declarations us);
+  bricks = tree_bricks m.declarations;
+  strings = map (λ t. t.1) (texts m.declarations);
 }

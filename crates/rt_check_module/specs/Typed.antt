@@ -4,11 +4,9 @@ use Rattle.rt_bricks.specs.declared.tree.Module.{Module}
 use Rattle.rt_tree_nodes.specs.declared.brick.ModuleParts.{ModuleParts}
 use Rattle.rt_exprs.specs.declared.fault.CheckFault.{CheckFault}
 use Rattle.rt_check_module.specs.Faults.{Stands}
-use Rattle.rt_check_module.specs.Tree.{Faults, Led, tree}
+use Rattle.rt_check_module.specs.Tree.{tree}
 
 -- t is the typed tree of module m, in which no fault stands
 pub record IsTyped (m : Module) (t : ModuleParts) : Type 0 where
-  pub led : Faults
-  pub are_led : Led m.declarations led
-  pub fit : (g : CheckFault) → Stands m.declarations led g → ⊥
-  pub is : t ≡ tree m led
+  pub fit : (g : CheckFault) → Stands m.declarations g → ⊥
+  pub is : t ≡ tree m

@@ -166,7 +166,7 @@ impl<'s> Seen<'s> {
         ensures { IfOk result (λ m. m ≡ spec.given_as kind (slice_get self.now.owns.now brick) brick item given.now) }
     {
         match given {
-            Given::Unfit(fault) => Ok(Meaning::Unfit(*fault)),
+            Given::Unknown => Ok(Meaning::Unknown),
             Given::Mode(mode) => {
                 let mode = copy_mode(alloc, mode)?;
                 Ok(self.item_with(kind, brick, item, mode))
@@ -208,7 +208,7 @@ fn brick_by(alloc: Global, brick: u16, sort: &Sort) -> Result<Meaning, Memory>
     match sort {
         Sort::Procedure(given) => match given {
             Given::Mode(mode) => Ok(Meaning::Proc(brick, copy_mode(alloc, mode)?)),
-            Given::Unfit(fault) => Ok(Meaning::Unfit(*fault)),
+            Given::Unknown => Ok(Meaning::UnknownProc),
         },
         Sort::Items(_) => Ok(Meaning::Data(brick)),
         Sort::Stack(_) => Ok(Meaning::Stack(brick)),

@@ -3,22 +3,16 @@
 //! `specs/Tree.antt` has the tree of a module, `specs/Faults.antt` the faults that stand in one, and `specs/Typed.antt` the
 //! typed tree of a module in which none stands.
 //!
-//! `specs/Leads.antt` says which MODEs lead to an unfit one ([`faults_led_to`]), `specs/Settled.antt` which bricks are unfit
-//! by that ([`settle`]), `specs/Levels.antt` what the names of MODEs ([`mode_level`]) and all names of a module
-//! ([`module_level`]) stand for. [`read_scene`] reads what the declarations say outside of what bricks hold: names, records,
-//! and bricks as they are declared.
+//! `specs/Levels.antt` says what the names of MODEs ([`mode_level`]) and all names of a module ([`module_level`]) stand for.
+//! [`read_scene`] reads what the declarations say outside of what bricks hold: names, records, and bricks as they are
+//! declared.
 #![tactic(auto)]
 
 mod filling;
-mod leads;
 mod levels;
 mod scene;
-mod settled;
 mod supplied;
-mod users;
 
 pub use filling::Filling;
-pub use leads::faults_led_to;
 pub use levels::{mode_level, module_level};
 pub use scene::{Scene, read_scene};
-pub use settled::settle;

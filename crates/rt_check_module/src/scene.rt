@@ -9,7 +9,7 @@ ghost use Rattle.rt_check_declared.specs.Names as known;
 ghost use Rattle.rt_check_module.specs.Tree as spec;
 ghost use Rattle.rt_check_module.specs.Scenes.{StandsOutside};
 
-use crate::{faults_led_to, mode_level, module_level, settle};
+use crate::{mode_level, module_level};
 use rt_bricks::Declaration;
 use rt_check_declared::{Heading, declared_names, either, read_bricks, read_records};
 use rt_exprs::{CheckFault, IndexedRecords, Level};
@@ -21,12 +21,10 @@ use std::alloc::Global;
 /// What the declarations of a module say.
 #[derive(Drop)]
 pub struct Scene<'m> {
-    /// The records, with those of their fields that have a fit mode.
+    /// The records; a field whose mode can't be known has LABEL.
     pub modes: IndexedRecords,
     /// The size of each record, where it has one.
     pub sizes: List<Option<Size>>,
-    /// Of each record the fault to which it leads, where there is one.
-    pub unfit: List<Option<CheckFault>>,
     /// The bricks as they are declared.
     pub bricks: List<Heading>,
     /// The names of the module, and what they stand for.
@@ -39,8 +37,7 @@ pub struct Scene<'m> {
 pub fn read_scene<'m>(alloc: Global, declarations: &'m [Declaration]) -> Result<Scene<'m>, Memory>
     ensures records { IfOk result (λ s. s.modes.records ≡ (spec.records declarations.now).records) }
     ensures sizes { IfOk result (λ s. AreSizes (spec.records declarations.now) s.sizes) }
-    ensures led { IfOk result (λ s. spec.Led declarations.now s.unfit) }
-    ensures bricks { IfOk result (λ s. s.bricks ≡ spec.headings declarations.now s.unfit) }
+    ensures bricks { IfOk result (λ s. s.bricks ≡ spec.headings declarations.now) }
     ensures level { IfOk result (λ s. names_of s.level ≡ module_names s.bricks (known.scope declarations.now)) }
     // The fault that counts; there is none only where none stands.
     ensures fault { IfOk result (λ s. Counts (StandsOutside declarations.now) s.fault) }
@@ -50,8 +47,7 @@ pub fn read_scene<'m>(alloc: Global, declarations: &'m [Declaration]) -> Result<
     let records = read_records(alloc, declarations, &modes_seen)?;
     let bricks = read_bricks(alloc, declarations, &modes_seen)?;
     let fault = either(either(names.fault, records.fault), bricks.fault);
-    let unfit = faults_led_to(alloc, records.records.as_slice(), records.unfit.as_slice())?;
-    let bricks = settle(alloc, bricks.bricks, unfit.as_slice())?;
+    let bricks = bricks.bricks;
     let level = module_level(alloc, &names, bricks.as_slice())?;
     let table = ModeTable {
         records: records.records,
@@ -60,7 +56,6 @@ pub fn read_scene<'m>(alloc: Global, declarations: &'m [Declaration]) -> Result<
     Ok(Scene {
         modes,
         sizes: records.sizes,
-        unfit,
         bricks,
         level,
         fault,

@@ -39,7 +39,8 @@ module _ (n : ℕ) where
   no_mode_below (meaning.Local k m) h = tt
   no_mode_below (meaning.Loop k) h = tt
   no_mode_below (meaning.Label k) h = tt
-  no_mode_below (meaning.Unfit g) h = tt
+  no_mode_below meaning.UnknownProc h = tt
+  no_mode_below meaning.Unknown h = tt
 
   means_below : (owns : List (Option Own)) (hs : List Heading) (d : Declared) → IsBelow n d → IsRecord n (means owns hs d)
   means_below owns hs (what.Record r) h = h

@@ -34,7 +34,7 @@ use Rattle.rt_check_declared.specs.Written.{Names, written}
 use Rattle.rt_check_bodies.specs.Sights.{Sight}
 use Rattle.rt_check_bodies.specs.Procedures.{procedure}
 use Rattle.rt_check_declared.specs.Names.{bricks_in as brick_count}
-use Rattle.rt_check_declared.specs.Fields.{fit_fields, faults_by}
+use Rattle.rt_check_declared.specs.Fields.{written_fields, faults_by}
 use Rattle.rt_check_declared.specs.declared.bricks.Heading.{Heading}
 use Rattle.rt_check_declared.specs.declared.bricks.Sort.TheVariants as sort
 use Rattle.rt_check_declared.specs.declared.parts.Given.{Given}
@@ -140,11 +140,11 @@ module _ (c : Scope) (n : ℕ) (count : length c.records ≡ n) where
         ap (λ (l : Mode-F Mode). passes (λ s. stands_alone (length c.records) (mode.Proc ms (Some r)) && body_fits c (own_kind entry) s (Some b)) (signature_by l)) o
         ∙ both_true (stands_alone (length c.records) (mode.Proc ms (Some r))) (is_here (own_kind entry) && proc_fits c ms (Some r) b) (stands_here (mode.Proc ms (Some r)) e) (both_true (is_here (own_kind entry)) (proc_fits c ms (Some r) b) (own_here entry) h)
 
-    pub procedure_brick_fits : (s : Sight) (p : ProcedureBrick) (z : IsHeaded names n known p) → proc_fits c (modes_of (fit_fields names site.Variable p.fields)) z.result (procedure s p) ≡ true
+    pub procedure_brick_fits : (s : Sight) (p : ProcedureBrick) (z : IsHeaded names n known p) → proc_fits c (modes_of (written_fields names site.Variable p.fields)) z.result (procedure s p) ≡ true
         → brick_fits c (brick_by (record { kind = own_kind p.entry; name = p.name.name; sort = sort.Procedure (heading_of names p) }) (record { body = Some (procedure s p); starts = [] })) ≡ true
     procedure_brick_fits s p z h =
         subst (λ (g : Given). brick_fits c (brick_by (record { kind = own_kind p.entry; name = p.name.name; sort = sort.Procedure g }) (record { body = Some (procedure s p); starts = [] })) ≡ true) (sym z.is)
-        (own_fits p.entry (modes_of (fit_fields names site.Variable p.fields)) z.result (procedure s p) (headed_stands names n known p z standing.Alone) h)
+        (own_fits p.entry (modes_of (written_fields names site.Variable p.fields)) z.result (procedure s p) (headed_stands names n known p z standing.Alone) h)
 
   -- ---- data
 

@@ -1,17 +1,19 @@
--- What the items of a data brick without fault are declared with.
-use Rattle.std.proofs.Common.{◌≡◌, ℕ, ◌+◌, List, [], ◌∷◌, ◌++◌, Option, Some, length, drop, arith, refl, ap, ◌∙◌}
-use Rattle.std.proofs.lemmas.List.{length-drop}
-use Rattle.rt_bricks.specs.declared.tree.DataItem.{DataItem}
+-- What the items of a data brick are declared with, where no fault stands in their modes.
+use Rattle.std.proofs.Common.{◌≡◌, ℕ, List, [], ◌∷◌, ◌++◌, map, refl}
+use Rattle.std.specs.List.{AllByRecursion}
 use Rattle.rt_bricks.specs.declared.tree.DataLine.{DataLine}
-use Rattle.rt_check_declared.specs.declared.parts.Given.{Given}
-use Rattle.rt_check_declared.specs.declared.parts.Given.TheVariants as given
-use Rattle.rt_check_declared.specs.declared.parts.Part.{Part}
-use Rattle.rt_check_declared.specs.Totals.{with_field, all_fields}
-use Rattle.rt_modes.specs.declared.mode.Field.{Field}
+use Rattle.rt_modes.specs.declared.mode.Mode.{Mode}
 use Rattle.rt_exprs.specs.declared.fault.CheckFault.{CheckFault}
-use Rattle.rt_exprs.specs.declared.scope.Scope.{Scope as Names}
-use Rattle.rt_check_starts.specs.Items.{faults_by, items_faults, brick_faults}
-use Rattle.rt_check_module_laws.specs.Starts.{items_in, AllAreFields}
+use Rattle.rt_check_declared.specs.declared.site.Site.TheVariants as site
+use Rattle.rt_check_declared.specs.declared.written.Resolved.{Resolved}
+use Rattle.rt_check_declared.specs.Fields.{faults_by}
+use Rattle.rt_check_declared.specs.Names.{idents}
+use Rattle.rt_check_declared.specs.Parts.{line_by, part, item_parts, item_faults}
+use Rattle.rt_check_declared.specs.Verdicts.{Verdict}
+use Rattle.rt_check_declared.specs.Written.{Names, written}
+use Rattle.rt_bricks_laws.proofs.AllLists.{all_joined}
+use Rattle.rt_check_module_laws.specs.Starts.{AllAreFields}
+use Rattle.rt_check_module_laws.proofs.Parts.{PartHas, are_fields, line_has}
 
 pub none_left : (xs ys : List CheckFault) → xs ++ ys ≡ [] → xs ≡ []
 none_left [] ys e = refl
@@ -21,27 +23,19 @@ pub none_right : (xs ys : List CheckFault) → xs ++ ys ≡ [] → ys ≡ []
 none_right [] ys e = e
 none_right (x ∷ xs) ys e = absurd cc
 
-abbrev AreFields : List Part → Type 0
-AreFields ps = (fs : List Field) × (all_fields ps ≡ Some fs)
+-- ---- what items are declared with
 
-module _ (s : Names) where
-  one_more : (i : DataItem) (p : Part) (ps : List Part) (other : List CheckFault) (g : Given) → p.has ≡ g → faults_by s i.name.at i.start g ++ other ≡ [] → AreFields ps → AreFields (p ∷ ps)
-  one_more i p ps other (given.Unfit f) has e h = absurd cc
-  one_more i p ps other (given.Mode m) has e h = (record { name = p.name; mode = m } ∷ h.0, ap (λ (x : Given). with_field p.name x (all_fields ps)) has ∙ ap (λ (o : Option (List Field)). with_field p.name (given.Mode m) o) h.1)
+-- whatever its mode is, it has one
+abbrev Any : List ℕ → Mode → Type 0
+Any n m = Unit {0}
 
-  -- the items of a line, where those behind it are fields
-  items_are : (is : List DataItem) (ps : List Part) (more : ℕ) → length ps ≡ length is + more → items_faults s is ps ≡ [] → AreFields (drop (length is) ps) → AreFields ps
-  items_are [] ps more n e h = h
-  items_are (i ∷ is) [] more n e h = absurd (omega (arith, n))
-  items_are (i ∷ is) (p ∷ ps) more n e h = one_more i p ps (items_faults s is ps) p.has refl e (items_are is ps more (omega (arith, n)) (none_right (faults_by s i.name.at i.start p.has) (items_faults s is ps) e) h)
-
-  lines_are : (ls : List DataLine) (ps : List Part) → length ps ≡ items_in ls → brick_faults s ls ps ≡ [] → AreFields ps
-  lines_are [] [] n e = ([], refl)
-  lines_are [] (p ∷ ps) n e = absurd (omega (arith, n))
-  lines_are (l ∷ ls) ps n e =
-      let left : length (drop (length l.items) ps) ≡ items_in ls = omega (arith, n, length-drop (length l.items) ps) in
-      items_are l.items ps (items_in ls) n (none_left (items_faults s l.items ps) (brick_faults s ls (drop (length l.items) ps)) e)
-      (lines_are ls (drop (length l.items) ps) left (none_right (items_faults s l.items ps) (brick_faults s ls (drop (length l.items) ps)) e))
+module _ (names : Names) where
+  all_have_modes : (ls : List DataLine) → item_faults names ls ≡ [] → AllByRecursion (PartHas Any) (item_parts names ls)
+  all_have_modes [] e = tt
+  all_have_modes (l ∷ ls) e =
+      let v : Verdict Resolved = written names l.mode site.Item in
+      all_joined (PartHas Any) (map (part (line_by v)) (idents l.items)) (item_parts names ls)
+      (line_has Any v (idents l.items) (none_left (faults_by v (idents l.items)) (item_faults names ls) e) (λ m q name. tt)) (all_have_modes ls (none_right (faults_by v (idents l.items)) (item_faults names ls) e))
 
 pub all_are_fields : AllAreFields
-all_are_fields s ls ps n e = lines_are s ls ps n e
+all_are_fields names ls e = let z = are_fields Any (item_parts names ls) (all_have_modes names ls e) in (z.fields, z.is)

@@ -29,7 +29,7 @@ use Rattle.rt_check_declared.specs.declared.written.Resolved.TheVariants as reso
 use Rattle.rt_check_declared.specs.Verdicts.{Verdict, fit, unfit, with_faults}
 use Rattle.rt_check_declared.specs.Written.{Names, written}
 use Rattle.rt_check_declared.specs.Names.{idents}
-use Rattle.rt_check_declared.specs.Fields.{fields_by, fit_fields, faults_by, mode_faults}
+use Rattle.rt_check_declared.specs.Fields.{fields_of_mode, fields_by, written_fields, faults_by, mode_faults}
 use Rattle.rt_check_declared.specs.declared.bricks.Sort.TheVariants as sort
 use Rattle.rt_check_declared.specs.declared.parts.Given.{Given}
 use Rattle.rt_check_declared.specs.declared.parts.Given.TheVariants as given
@@ -54,7 +54,7 @@ pub parts_so : (P Q : List ℕ → Mode → Type 0) → ((n : List ℕ) (m : Mod
 parts_so P Q f ps h = all_so (PartHas P) (PartHas Q) ps (λ p k. by_given p.name p.has k) h where
   by_given : (n : List ℕ) (g : Given) → GivenHas P n g → GivenHas Q n g
   by_given n (given.Mode m) k = f n m k
-  by_given n (given.Unfit u) k = k
+  by_given n given.Unknown k = k
 
 -- the mode may stand as that of an item of n records
 abbrev pub ItemStands : ℕ → List ℕ → Mode → Type 0
@@ -169,32 +169,33 @@ module _ (names : Names) (n : ℕ) (known : AreRecords n names) where
   pub record IsHeaded (p : ProcedureBrick) : Type 0 where
     pub result : Option Mode
     pub written_so : result ≡ result_by (result_line names p.result)
-    pub is : procedure names p ≡ given.Mode (mode.Proc (modes_of (fit_fields names site.Variable p.fields)) result)
+    pub is : procedure names p ≡ given.Mode (mode.Proc (modes_of (written_fields names site.Variable p.fields)) result)
     pub passes : ResultPasses n result
     pub value : ResultValue result
-    pub few : length (modes_of (fit_fields names site.Variable p.fields)) ≤ 32
-    pub pass : AllByRecursion (λ m. stands n m standing.Passed 99 8 ≡ true) (modes_of (fit_fields names site.Variable p.fields))
+    pub few : length (modes_of (written_fields names site.Variable p.fields)) ≤ 32
+    pub pass : AllByRecursion (λ m. stands n m standing.Passed 99 8 ≡ true) (modes_of (written_fields names site.Variable p.fields))
+
+  of_mode_few : (m : Mode) (is : List Ident) → length (fields_of_mode m is) ≤ length is
+  of_mode_few m [] = omega arith
+  of_mode_few m (i ∷ is) = let e = of_mode_few m is in omega (arith, e)
 
   one_line_few : (v : Verdict Resolved) (is : List Ident) → length (fields_by v is) ≤ length is
-  one_line_few (fit (resolved.Mode m)) is = same is where
-    same : (is : List Ident) → length (fields_by (fit (resolved.Mode m)) is) ≤ length is
-    same [] = omega arith
-    same (i ∷ is) = let e = same is in omega (arith, e)
-  one_line_few (fit resolved.BadLength) is = omega arith
-  one_line_few (unfit f fs) is = omega arith
+  one_line_few (fit (resolved.Mode m)) is = of_mode_few m is
+  one_line_few (fit resolved.BadLength) is = of_mode_few mode.Label is
+  one_line_few (unfit f fs) is = of_mode_few mode.Label is
 
-  few_fields : (gs : List Fields) → length (modes_of (fit_fields names site.Variable gs)) ≤ names_in gs
-  few_fields gs = let e = counted (fit_fields names site.Variable gs) in let h = fields_few gs in omega (arith, e, h) where
+  few_fields : (gs : List Fields) → length (modes_of (written_fields names site.Variable gs)) ≤ names_in gs
+  few_fields gs = let e = counted (written_fields names site.Variable gs) in let h = fields_few gs in omega (arith, e, h) where
     counted : (fs : List Field) → length (modes_of fs) ≡ length fs
     counted [] = refl
     counted (f ∷ fs) = let e = counted fs in omega (arith, e)
 
-    fields_few : (gs : List Fields) → length (fit_fields names site.Variable gs) ≤ names_in gs
+    fields_few : (gs : List Fields) → length (written_fields names site.Variable gs) ≤ names_in gs
     fields_few [] = omega arith
     fields_few (g ∷ gs) =
         let v : Verdict Resolved = written names g.mode site.Variable in
         let e = fields_few gs in
-        omega (arith, e, one_line_few v g.names, length_joined (fields_by v g.names) (fit_fields names site.Variable gs))
+        omega (arith, e, one_line_few v g.names, length_joined (fields_by v g.names) (written_fields names site.Variable gs))
 
   modes_pass : (fs : List Field) → AllByRecursion (FieldIs names n known standing.Passed 99) fs → AllByRecursion (λ m. stands n m standing.Passed 99 8 ≡ true) (modes_of fs)
   modes_pass [] h = tt
@@ -222,7 +223,7 @@ module _ (names : Names) (n : ℕ) (known : AreRecords n names) where
 
   pub is_headed : (p : ProcedureBrick) → procedure_faults names p ≡ [] → IsShallowProcedure p → IsHeaded p
   is_headed p e h =
-      let fs : List Field = fit_fields names site.Variable p.fields in
+      let fs : List Field = written_fields names site.Variable p.fields in
       let r : Option Mode = result_by (result_line names p.result) in
       record {
         result = r;
@@ -231,18 +232,18 @@ module _ (names : Names) (n : ℕ) (known : AreRecords n names) where
         passes = result_passes p.name p.result (second_nothing (mode_faults names site.Variable p.fields) (result_faults names p.name p.result) e) h.result;
         value = result_value p.name p.result (second_nothing (mode_faults names site.Variable p.fields) (result_faults names p.name p.result) e) h.result;
         few = let k = few_fields p.fields in let l = h.few in omega (arith, k, l);
-        pass = modes_pass fs (fields_stand names n known site.Variable 99 p.fields h.fields);
+        pass = modes_pass fs (fields_stand names n known site.Variable 99 p.fields h.fields (first_nothing (mode_faults names site.Variable p.fields) (result_faults names p.name p.result) e));
       }
 
-  pub headed_stands : (p : ProcedureBrick) (h : IsHeaded p) (q : Standing) → stands n (mode.Proc (modes_of (fit_fields names site.Variable p.fields)) h.result) q 100 8 ≡ true
-  headed_stands p h q = proc_stands n (modes_of (fit_fields names site.Variable p.fields)) h.result q h.few h.pass h.passes
+  pub headed_stands : (p : ProcedureBrick) (h : IsHeaded p) (q : Standing) → stands n (mode.Proc (modes_of (written_fields names site.Variable p.fields)) h.result) q 100 8 ≡ true
+  headed_stands p h q = proc_stands n (modes_of (written_fields names site.Variable p.fields)) h.result q h.few h.pass h.passes
 
   -- ---- all bricks
 
   procedure_good : (p : ProcedureBrick) (own : Bool) → procedure_faults names p ≡ [] → IsShallowProcedure p → SortGood own (sort.Procedure (procedure names p))
   procedure_good p own e h =
       let z = is_headed p e h in
-      subst (λ (g : Given). SortGood own (sort.Procedure g)) (sym z.is) (passed_is_value n (mode.Proc (modes_of (fit_fields names site.Variable p.fields)) z.result) (headed_stands p z standing.Passed))
+      subst (λ (g : Given). SortGood own (sort.Procedure g)) (sym z.is) (passed_is_value n (mode.Proc (modes_of (written_fields names site.Variable p.fields)) z.result) (headed_stands p z standing.Passed))
 
   imported_good : (k : Kind) (w : WrittenMode) (is : List Ident) → shallow w 100 8 ≡ true → faults_by (written names w site.Variable) is ≡ [] → AllByRecursion HeadingGood (map (imported_procedure k (variable names w)) is)
   imported_good k w is h e = by_written (written names w site.Variable) refl is e where

@@ -17,13 +17,12 @@ use Rattle.rt_exprs_laws.specs.Agreeing.{IsValue}
 use Rattle.rt_check_declared.specs.declared.site.Site.TheVariants as site
 use Rattle.rt_check_declared.specs.declared.written.Resolved.{Resolved}
 use Rattle.rt_check_declared.specs.declared.written.Resolved.TheVariants as resolved
-use Rattle.rt_check_declared.specs.Unfit.{unfit_record}
 use Rattle.rt_check_declared.specs.Verdicts.{Verdict, fit, unfit, outcome}
 use Rattle.rt_check_declared.specs.Written.{Names, written}
 use Rattle.rt_check_bodies.specs.declared.tally.Tally.{Tally}
 use Rattle.rt_check_bodies.specs.Parts.{mode_or, noted, noted_if}
-use Rattle.rt_check_bodies.specs.Sights.{Names as Level, Sight, holds, scope_of, mode_in, variable_by, unless_unfit}
-use Rattle.rt_check_declared.specs.Fields.{fields_by, fit_fields, faults_by, mode_faults}
+use Rattle.rt_check_bodies.specs.Sights.{Names as Level, Sight, holds, scope_of, mode_in, variable_by}
+use Rattle.rt_check_declared.specs.Fields.{fields_by, written_fields, faults_by, mode_faults}
 use Rattle.rt_check_declared.specs.Bricks.{result_by, result_line, result_faults}
 use Rattle.rt_check_declared.specs.Parts.{line_by}
 use Rattle.rt_check_bodies.specs.Procedures.{named, group, parameters, answer_in, wanted}
@@ -50,13 +49,13 @@ locals_joined : (fs gs : List Field) → locals_of (fs ++ gs) ≡ locals_of fs +
 locals_joined [] gs = refl
 locals_joined (f ∷ fs) gs = ap (λ (ls : List Made). made.Variable f.mode ∷ ls) (locals_joined fs gs)
 
--- where the names of MODEs are those that the sight has, and no record is unfit
-module _ (names : Names) (s : Sight) (same : SameModes names (find (scope_of s))) (free : (m : Mode) → unfit_record s.unfit m ≡ None) where
-  found_mode : (at : At) (w : WrittenMode) (v : Verdict Resolved) → written names w site.Variable ≡ v → mode_in s at w ≡ outcome v >>= variable_by s.unfit at
-  found_mode at w v e = ap (λ (x : Verdict Resolved). outcome x >>= variable_by s.unfit at) (sym (same_written names (find (scope_of s)) same w site.Variable) ∙ e)
+-- where the names of MODEs are those that the sight has
+module _ (names : Names) (s : Sight) (same : SameModes names (find (scope_of s))) where
+  found_mode : (at : At) (w : WrittenMode) (v : Verdict Resolved) → written names w site.Variable ≡ v → mode_in s at w ≡ outcome v >>= variable_by at
+  found_mode at w v e = ap (λ (x : Verdict Resolved). outcome x >>= variable_by at) (sym (same_written names (find (scope_of s)) same w site.Variable) ∙ e)
 
   mode_is : (at : At) (w : WrittenMode) (m : Mode) → written names w site.Variable ≡ fit (resolved.Mode m) → mode_in s at w ≡ Ok m
-  mode_is at w m e = found_mode at w (fit (resolved.Mode m)) e ∙ ap (unless_unfit m) (free m)
+  mode_is at w m e = found_mode at w (fit (resolved.Mode m)) e
 
   mode_bad : (at : At) (w : WrittenMode) → written names w site.Variable ≡ fit resolved.BadLength → mode_in s at w ≡ Err (fault.LeftOut 3 at)
   mode_bad at w e = found_mode at w (fit resolved.BadLength) e
@@ -86,15 +85,16 @@ module _ (names : Names) (s : Sight) (same : SameModes names (find (scope_of s))
         let none : g.names ≡ [] = unmapped_nothing _ g.names e in
         ap (λ (o : Outcome Mode). (behind l g t o).1.locals) (mode_bad g.at g.mode q)
         ∙ ap (λ (is : List Ident). (group (Err (fault.LeftOut 3 g.at)) l is (noted (fault.LeftOut 3 g.at) t)).1.locals) none ∙ sym (append-nil t.locals)
+        ∙ ap (λ (is : List Ident). t.locals ++ locals_of (fields_by (fit resolved.BadLength) is)) (sym none)
     by_written (unfit f fs) q e = absurd cc
 
-  pub heads_are : (l : Level) (gs : List Fields) (t : Tally) → mode_faults names site.Variable gs ≡ [] → (parameters s l gs t).1.locals ≡ t.locals ++ locals_of (fit_fields names site.Variable gs)
+  pub heads_are : (l : Level) (gs : List Fields) (t : Tally) → mode_faults names site.Variable gs ≡ [] → (parameters s l gs t).1.locals ≡ t.locals ++ locals_of (written_fields names site.Variable gs)
   heads_are l [] t e = sym (append-nil t.locals)
   heads_are l (g ∷ gs) t e =
       let v : Verdict Resolved = written names g.mode site.Variable in
       let u : Level × Tally = behind l g t (mode_in s g.at g.mode) in
       let fs : List Field = fields_by v g.names in
-      let rest : List Field = fit_fields names site.Variable gs in
+      let rest : List Field = written_fields names site.Variable gs in
       heads_are u.0 gs u.1 (second_nothing (faults_by v g.names) (mode_faults names site.Variable gs) e)
       ∙ ap (λ (ls : List Made). ls ++ locals_of rest) (one_group l g t (first_nothing (faults_by v g.names) (mode_faults names site.Variable gs) e))
       ∙ append_assoc t.locals (locals_of fs) (locals_of rest) ∙ ap (λ (ls : List Made). t.locals ++ ls) (sym (locals_joined fs rest))

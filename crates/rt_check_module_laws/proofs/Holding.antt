@@ -1,5 +1,5 @@
 -- What a procedure sees outside of itself is there in the tree.
-use Rattle.std.proofs.Common.{◌≡◌, inl, ℕ, suc, drop, List, [], ◌∷◌, length, map, replicate, Option, refl, sym, ap, ◌∙◌, subst, arith}
+use Rattle.std.proofs.Common.{◌≡◌, ℕ, suc, drop, List, [], ◌∷◌, length, map, replicate, Option, refl, sym, ap, ◌∙◌, arith}
 use Rattle.std.specs.List.{AllByRecursion}
 use Rattle.rt_bricks.specs.declared.tree.Declaration.{Declaration}
 use Rattle.rt_bricks.specs.declared.tree.Declaration.TheVariants as declares
@@ -7,38 +7,27 @@ use Rattle.rt_bricks.specs.declared.tree.Module.{Module}
 use Rattle.rt_pieces.specs.declared.item.Item.{Item}
 use Rattle.rt_tree_nodes.specs.declared.brick.Local.{Local}
 use Rattle.rt_tree_nodes.specs.Scopes.{Scope, scope_of, with_locals}
-use Rattle.rt_exprs.specs.declared.fault.CheckFault.{CheckFault}
 use Rattle.rt_tree.specs.Statements.{Sight as Seen}
-use Rattle.rt_check_declared.specs.Verdicts.{IsIn}
 use Rattle.rt_check_bodies.specs.Sights.{Sight, set_of}
 use Rattle.rt_check_declared.specs.Names.{scope}
 use Rattle.rt_check_declared.specs.Names.{bricks_in as brick_count}
 use Rattle.rt_check_declared.specs.declared.bricks.Heading.{Heading}
 use Rattle.rt_check_declared.specs.Bricks.{import_kind, imported_procedure, imported_stack, variable, bricks_in, bricks, brick_faults}
-use Rattle.rt_check_module.specs.Settled.{settled}
 use Rattle.rt_check_bodies_laws.specs.Held.{Holds}
 use Rattle.rt_check_module.specs.declared.filling.Filling.{Filling}
-use Rattle.rt_check_module.specs.Tree.{Faults, modes_seen, records, declared, first, headings, fillings, nothing, gathered, fillings_in, texts, sight, tree}
+use Rattle.rt_check_module.specs.Tree.{modes_seen, records, first, headings, fillings, nothing, gathered, fillings_in, texts, sight, tree}
 use Rattle.rt_check_module.specs.Faults.{in_bricks}
 use Rattle.rt_check_module_laws.specs.Modules.{IsText, IsFaultless}
 use Rattle.rt_check_module_laws.proofs.Headings.{headings_good}
 use Rattle.rt_bricks_laws.proofs.AllLists.{length_mapped, length_joined}
 use Rattle.rt_check_module_laws.proofs.Modes.{records_have_items}
-use Rattle.rt_check_module_laws.proofs.Records.{modes_are_records, text_shallow, none_stands}
+use Rattle.rt_check_module_laws.proofs.Records.{modes_are_records, text_shallow, nothing_in, modes_fit}
 use Rattle.rt_check_module_laws.proofs.There.{HeadingGood, names_hold}
-use Rattle.rt_check_module_laws.proofs.Unfit.{headings_same}
 
 -- ---- what has no fault
 
-pub nothing_in : (fs : List CheckFault) → ((g : CheckFault) → IsIn g fs → ⊥) → fs ≡ []
-nothing_in [] h = refl
-nothing_in (f ∷ fs) h = absurd (h f (inl refl))
-
-pub no_brick_faults : (ds : List Declaration) (us : Faults) → IsFaultless ds us → brick_faults (modes_seen ds) ds ≡ []
-no_brick_faults ds us h = nothing_in (brick_faults (modes_seen ds) ds) (λ g k. h.none g (in_bricks k))
-
-pub all_declared : (ds : List Declaration) (us : Faults) → IsFaultless ds us → headings ds us ≡ declared ds
-all_declared ds us h = headings_same us (none_stands ds us h) (declared ds)
+pub no_brick_faults : (ds : List Declaration) → IsFaultless ds → brick_faults (modes_seen ds) ds ≡ []
+no_brick_faults ds h = nothing_in (brick_faults (modes_seen ds) ds) (λ g k. h g (in_bricks k))
 
 -- ---- as many fillings as bricks
 
@@ -65,8 +54,8 @@ all_filled s hs of (d ∷ ds) =
     let go = all_filled s (drop (brick_count d) hs) of ds in
     omega (arith, one, go, length_joined (fillings_in s (first hs) d) rest, length_joined (bricks_in (modes_seen of) d) (bricks (modes_seen of) ds))
 
-pub headings_filled : (ds : List Declaration) (us : Faults) → length (fillings ds us) ≡ length (headings ds us)
-headings_filled ds us = all_filled (sight ds us) (headings ds us) ds ds ∙ sym (length_mapped (settled us) (declared ds))
+pub headings_filled : (ds : List Declaration) → length (fillings ds) ≡ length (headings ds)
+headings_filled ds = all_filled (sight ds) (headings ds) ds ds
 
 -- ---- strings
 
@@ -76,19 +65,18 @@ key_count (k ∷ ks) = ap suc (key_count ks)
 
 -- ---- the whole
 
-pub good_headings : (items : List Item) (m : Module) (us : Faults) → IsText items m → IsFaultless m.declarations us → AllByRecursion HeadingGood (headings m.declarations us)
-good_headings items m us t h =
-    subst (AllByRecursion HeadingGood) (sym (all_declared m.declarations us h))
-    (headings_good (modes_seen m.declarations) (length (records m.declarations).records) (modes_are_records m.declarations) m.declarations (no_brick_faults m.declarations us h) (text_shallow items m t))
+pub good_headings : (items : List Item) (m : Module) → IsText items m → IsFaultless m.declarations → AllByRecursion HeadingGood (headings m.declarations)
+good_headings items m t h =
+    headings_good (modes_seen m.declarations) (length (records m.declarations).records) (modes_are_records m.declarations) m.declarations (no_brick_faults m.declarations h) (text_shallow items m t)
 
-pub names_are_held : (items : List Item) (m : Module) (us : Faults) (ls : List Local) (seen : Seen) → IsText items m → IsFaultless m.declarations us → Holds (with_locals (scope_of (tree m us)) ls) (sight m.declarations us) seen
-names_are_held items m us ls seen t h =
+pub names_are_held : (items : List Item) (m : Module) (ls : List Local) (seen : Seen) → IsText items m → IsFaultless m.declarations → Holds (with_locals (scope_of (tree m)) ls) (sight m.declarations) seen
+names_are_held items m ls seen t h =
     let ds : List Declaration = m.declarations in
-    let c : Scope = with_locals (scope_of (tree m us)) ls in
-    let items_of : List ℕ = map (λ x. x.0) (texts ds us) in
+    let c : Scope = with_locals (scope_of (tree m)) ls in
+    let items_of : List ℕ = map (λ x. x.0) (texts ds) in
     record {
       records = refl;
-      fields = records_have_items (modes_seen ds) (length (records ds).records) (modes_are_records ds) ds (text_shallow items m t);
-      strings = key_count items_of ∙ length_mapped _ (texts ds us) ∙ sym (length_mapped _ (texts ds us));
-      levels = (names_hold c refl refl (headings ds us) (fillings ds us) (headings_filled ds us) refl (good_headings items m us t h) seen (scope ds), tt);
+      fields = records_have_items (modes_seen ds) (length (records ds).records) (modes_are_records ds) ds (text_shallow items m t) (modes_fit ds h);
+      strings = key_count items_of ∙ length_mapped _ (texts ds) ∙ sym (length_mapped _ (texts ds));
+      levels = (names_hold c refl refl (headings ds) (fillings ds) (headings_filled ds) refl (good_headings items m t h) seen (scope ds), tt);
     }

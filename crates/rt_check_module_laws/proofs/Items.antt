@@ -94,7 +94,7 @@ abbrev AnyNamed : Option (List Field) → Type 0
 AnyNamed o = AllByRecursion FieldNamed (or_none o)
 
 with_named : (n : List ℕ) (g : Given) (o : Option (List Field)) → IsSpelledName n → AnyNamed o → AnyNamed (with_field n g o)
-with_named n (given.Unfit f) o h k = tt
+with_named n given.Unknown o h k = tt
 with_named n (given.Mode m) None h k = tt
 with_named n (given.Mode m) (Some fs) h k = (h, k)
 
@@ -111,7 +111,7 @@ BrickNamed b = DataNamed b.sort
 
 sort_named : (x : Sort) (f : Filling) → SortNamed x → DataNamed (sort_by x f)
 sort_named (sort.Procedure (given.Mode m)) f h = tt
-sort_named (sort.Procedure (given.Unfit g)) f h = tt
+sort_named (sort.Procedure given.Unknown) f h = tt
 sort_named (sort.Items ps) f h = all_named ps h
 sort_named (sort.Stack n) f h = tt
 

@@ -156,14 +156,15 @@ named_nothing at (meaning.Svc k m) h = refl
 named_nothing at (meaning.Local k m) h = refl
 named_nothing at (meaning.Loop k) h = refl
 named_nothing at (meaning.Label k) h = refl
-named_nothing at (meaning.Unfit g) h = refl
+named_nothing at meaning.UnknownProc h = refl
+named_nothing at meaning.Unknown h = refl
 
 pub brick_no_mode : (b : ℕ) (o : Option Heading) → NoMode (brick_in b o)
 brick_no_mode b None = tt
 brick_no_mode b (Some h) = by_sort h.sort where
   by_sort : (s : Sort) → NoMode (brick_by b s)
   by_sort (sort.Procedure (given.Mode m)) = tt
-  by_sort (sort.Procedure (given.Unfit g)) = tt
+  by_sort (sort.Procedure given.Unknown) = tt
   by_sort (sort.Items ps) = tt
   by_sort (sort.Stack n) = tt
 
@@ -189,7 +190,7 @@ module _ (k : Kind) (b j : ℕ) where
   with_no_mode None m = shared_no_mode (is_svc k) m
 
   given_no_mode : (o : Option (Option Own)) (g : Given) → NoMode (given_as k o b j g)
-  given_no_mode o (given.Unfit g) = tt
+  given_no_mode o given.Unknown = tt
   given_no_mode o (given.Mode m) = with_no_mode o m
 
   part_no_mode : (o : Option (Option Own)) (p : Option Part) → NoMode (item_by k o b j p)

@@ -6,7 +6,6 @@ pub mod StartTexts
 pub mod Made
 pub mod Fields
 pub mod StartBricks
-pub mod Unfit
 pub mod Known
 pub mod Levels
 pub mod Modes
@@ -14,6 +13,7 @@ pub mod Parts
 pub mod Own
 pub mod There
 pub mod Below
+pub mod Knowing
 pub mod Records
 pub mod Headings
 pub mod Heads

@@ -1,5 +1,5 @@
 -- What is made of a start that fits a mode starts an item of it.
-use Rattle.std.proofs.Common.{◌≡◌, ℕ, ◌+◌, ◌==◌, ◌&&◌, Bool, true, false, if◌then◌else◌, List, [], ◌∷◌, ◌++◌, Option, Some, None, length, map, take, drop, slice_get, arith, refl, sym, ap, ◌∙◌, subst}
+use Rattle.std.proofs.Common.{◌≡◌, ℕ, zero, suc, ◌+◌, ◌==◌, ◌&&◌, ◌||◌, Bool, true, false, if◌then◌else◌, List, [], ◌∷◌, ◌++◌, Option, Some, None, length, map, take, drop, slice_get, arith, refl, sym, ap, ◌∙◌, subst}
 use Rattle.std.specs.Prelude.{nat_lt, nat_le, replicate, not}
 use Rattle.std.specs.List.{AllByRecursion}
 use Rattle.std.proofs.lemmas.List.{length-append, length-replicate, length-drop, length-map, take-append-drop}
@@ -23,14 +23,17 @@ use Rattle.rt_exprs.specs.Modes.{is_byte}
 use Rattle.rt_items.specs.Ranges.{IsByte}
 use Rattle.rt_syntax.specs.Strings.{Texts, Finds, all}
 use Rattle.rt_tree.specs.Modules.{number_starts, text_starts, starts, all_start, fields_start}
-use Rattle.rt_exprs_laws.specs.Agreeing.{IsThere}
+use Rattle.rt_exprs_laws.specs.Agreeing.{IsThere, IsItem, HasItems}
+use Rattle.rt_check_bodies_laws.specs.Held.{IsKnown}
+use Rattle.rt_exprs.specs.Operands.{is_label}
 use Rattle.rt_exprs_laws.proofs.Standing.{is_byte as byte_mode}
 use Rattle.rt_words.specs.Word.{wrap_sub}
 use Rattle.rt_check_declared.specs.Written.{Names}
 use Rattle.rt_bricks_laws.specs.Strings.{in_start}
-use Rattle.rt_check_starts.specs.Starts.{Written, copies, total, all_stand, covers, Wanted, elements, fields, nothing, if_covered, wanted_fields, wanted, each_fits, all_fit, fields_fit, in_each, in_all, in_fields, each_made, all_made, fields_made, is_negative, number_fits, word, text_fits, text_used, text_made, number_of, written}
+use Rattle.rt_check_starts.specs.Starts.{Written, copies, total, all_stand, covers, Wanted, elements, fields, nothing, if_covered, wanted_fields, wanted, each_fits, starts_field, all_fit, fields_fit, in_each, in_all, in_fields, each_made, all_made, fields_made, is_negative, number_fits, word, text_fits, text_used, text_made, number_of, written}
 use Rattle.rt_check_starts.specs.Strings.{is_in, all as all_texts, texts}
 use Rattle.rt_check_starts.proofs.Lists.{written_at, copies_seen, all_copies, list_fits, list_used, list_made}
+use Rattle.rt_check_bodies_laws.proofs.Certain.{no_label}
 use Rattle.rt_check_module_laws.specs.Starts.{AreBytes, BeginAt}
 use Rattle.rt_check_module_laws.proofs.Tests.{left_of, right_of, both, equal_numbers, all_left, all_right}
 use Rattle.rt_check_module_laws.proofs.Layers.{a_number, a_text, an_array, a_record, more_start, copies_start, more_fields}
@@ -69,7 +72,23 @@ same_byte m o = ap (λ (x : Mode). same x mode.Byte) (byte_mode m o) ∙ same_it
 abbrev uses : Written → Mode → List ℕ
 uses w = w.used
 
-module _ (c : Scope) (records : List RecordDef) (names : Names) (keys items : List ℕ) (same_records : records ≡ c.records) (count : length keys ≡ c.strings) (there : (name : List ℕ) (is : Meaning) → names name ≡ Some is → IsThere c is) where
+-- what starts a field whose mode is known fits its mode
+field_fits : (label fits : Bool) → label ≡ false → label || fits ≡ true → fits ≡ true
+field_fits true fits e h = absurd cc
+field_fits false fits e h = h
+
+all_taken : {A : Type 0} (P : A → Type 0) (k : ℕ) (xs : List A) → AllByRecursion P xs → AllByRecursion P (take k xs)
+all_taken P zero xs h = tt
+all_taken P (suc k) [] h = tt
+all_taken P (suc k) (x ∷ xs) h = (h.0, all_taken P k xs h.1)
+
+pub all_dropped : {A : Type 0} (P : A → Type 0) (k : ℕ) (xs : List A) → AllByRecursion P xs → AllByRecursion P (drop k xs)
+all_dropped P zero xs h = h
+all_dropped P (suc k) [] h = tt
+all_dropped P (suc k) (x ∷ xs) h = all_dropped P k xs h.1
+
+module _ (c : Scope) (records : List RecordDef) (names : Names) (keys items : List ℕ) (same_records : records ≡ c.records) (count : length keys ≡ c.strings) (there : (name : List ℕ) (is : Meaning) → names name ≡ Some is → IsThere c is)
+    (known : (name : List ℕ) (is : Meaning) → names name ≡ Some is → IsKnown is) (items_are : (r : ℕ) (d : RecordDef) → slice_get records r ≡ Some d → HasItems d) where
   abbrev seen : Start → Written
   seen = written records names keys
 
@@ -114,14 +133,14 @@ module _ (c : Scope) (records : List RecordDef) (names : Names) (keys items : Li
   -- ---- the fields of a record
 
   -- the fields that one part starts
-  some_start : (x : Start) (fits : Fits x) (prior : Texts) (gs : List Field) → AreBytes (in_start x prior) → Numbered (texts items x) → AreUsed (in_all uses (plain x) gs) → all_fit (seen x) gs ≡ true
+  some_start : (x : Start) (fits : Fits x) (prior : Texts) (gs : List Field) → AllByRecursion (λ (g : Field). IsItem g.mode) gs → AreBytes (in_start x prior) → Numbered (texts items x) → AreUsed (in_all uses (plain x) gs) → all_fit (seen x) gs ≡ true
       → AllByRecursion (λ (g : Field). starts c ((seen x).made g.mode) g.mode ≡ true) gs
-  some_start x fits prior [] b t u h = tt
-  some_start x fits prior (g ∷ gs) b t u h =
-      let now : Bool = (seen x).fits g.mode in
+  some_start x fits prior [] k b t u h = tt
+  some_start x fits prior (g ∷ gs) k b t u h =
+      let now : Bool = starts_field (seen x) g.mode in
       let later : Bool = all_fit (seen x) gs in (
-        fits prior g.mode b t (all_left (λ (k : ℕ). is_in items k ≡ true) ((plain x).used g.mode) (in_all uses (plain x) gs) u) (left_of now later h),
-        some_start x fits prior gs b t (all_right (λ (k : ℕ). is_in items k ≡ true) ((plain x).used g.mode) (in_all uses (plain x) gs) u) (right_of now later h),
+        fits prior g.mode b t (all_left (λ (k : ℕ). is_in items k ≡ true) ((plain x).used g.mode) (in_all uses (plain x) gs) u) (field_fits (is_label (out-Mode g.mode)) ((seen x).fits g.mode) (no_label g.mode k.0) (left_of now later h)),
+        some_start x fits prior gs k.1 b t (all_right (λ (k : ℕ). is_in items k ≡ true) ((plain x).used g.mode) (in_all uses (plain x) gs) u) (right_of now later h),
       )
 
   same_copies : (x : Start) → (plain x).copies ≡ (seen x).copies
@@ -130,22 +149,22 @@ module _ (c : Scope) (records : List RecordDef) (names : Names) (keys items : Li
   abbrev copied : List Start → ℕ
   copied xs = total (map (λ (w : Written). w.copies) (map seen xs))
 
-  fields_start_so : (ps : List Pair) (prior : Texts) (fs : List Field) → AreBytes (all (map in_start (inner ps)) prior) → Numbered (all_texts (map (texts items) (inner ps))) → AreUsed (in_fields uses (map plain (inner ps)) fs)
+  fields_start_so : (ps : List Pair) (prior : Texts) (fs : List Field) → AllByRecursion (λ (g : Field). IsItem g.mode) fs → AreBytes (all (map in_start (inner ps)) prior) → Numbered (all_texts (map (texts items) (inner ps))) → AreUsed (in_fields uses (map plain (inner ps)) fs)
       → fields_fit (map seen (inner ps)) fs ≡ true → copied (inner ps) ≡ length fs → fields_start (map (starts c) (fields_made (map seen (inner ps)) fs)) fs ≡ true
-  fields_start_so [] prior [] b t u h n = refl
-  fields_start_so [] prior (f ∷ fs) b t u h n = absurd (omega (arith, n))
-  fields_start_so (p ∷ ps) prior fs b t u h n =
+  fields_start_so [] prior [] i b t u h n = refl
+  fields_start_so [] prior (f ∷ fs) i b t u h n = absurd (omega (arith, n))
+  fields_start_so (p ∷ ps) prior fs i b t u h n =
       let k : ℕ = (seen p.0).copies in
       let now : Bool = all_fit (seen p.0) (take k fs) in
       let later : Bool = fields_fit (map seen (inner ps)) (drop k fs) in
       let used : AreUsed (in_all uses (plain p.0) (take k fs) ++ in_fields uses (map plain (inner ps)) (drop k fs)) =
       subst (λ (j : ℕ). AreUsed (in_all uses (plain p.0) (take j fs) ++ in_fields uses (map plain (inner ps)) (drop j fs))) (same_copies p.0) u in
       let first : AllByRecursion (λ (g : Field). starts c ((seen p.0).made g.mode) g.mode ≡ true) (take k fs) =
-      some_start p.0 p.1 prior (take k fs) (all_keep (inner ps) (in_start p.0 prior) b) (all_left (λ (s : ℕ × List ℕ). is_in keys s.0 ≡ true) (texts items p.0) (all_texts (map (texts items) (inner ps))) t)
+      some_start p.0 p.1 prior (take k fs) (all_taken (λ (g : Field). IsItem g.mode) k fs i) (all_keep (inner ps) (in_start p.0 prior) b) (all_left (λ (s : ℕ × List ℕ). is_in keys s.0 ≡ true) (texts items p.0) (all_texts (map (texts items) (inner ps))) t)
       (all_left (λ (i : ℕ). is_in items i ≡ true) (in_all uses (plain p.0) (take k fs)) (in_fields uses (map plain (inner ps)) (drop k fs)) used) (left_of now later h) in
       let left : copied (inner ps) ≡ length (drop k fs) = omega (arith, n, length-drop k fs) in
       let rest : fields_start (map (starts c) (fields_made (map seen (inner ps)) (drop k fs))) (drop k fs) ≡ true =
-      fields_start_so ps (in_start p.0 prior) (drop k fs) b (all_right (λ (s : ℕ × List ℕ). is_in keys s.0 ≡ true) (texts items p.0) (all_texts (map (texts items) (inner ps))) t)
+      fields_start_so ps (in_start p.0 prior) (drop k fs) (all_dropped (λ (g : Field). IsItem g.mode) k fs i) b (all_right (λ (s : ℕ × List ℕ). is_in keys s.0 ≡ true) (texts items p.0) (all_texts (map (texts items) (inner ps))) t)
       (all_right (λ (i : ℕ). is_in items i ≡ true) (in_all uses (plain p.0) (take k fs)) (in_fields uses (map plain (inner ps)) (drop k fs)) used) (right_of now later h) left in
       subst (λ (gs : List Field). fields_start (map (starts c) (all_made (seen p.0) (take k fs) ++ fields_made (map seen (inner ps)) (drop k fs))) gs ≡ true) (take-append-drop k fs)
       (more_fields c (seen p.0).made (take k fs) (drop k fs) (fields_made (map seen (inner ps)) (drop k fs)) first rest)
@@ -181,7 +200,7 @@ module _ (c : Scope) (records : List RecordDef) (names : Names) (keys items : Li
         let fits : fields_fit (map seen (inner ps)) d.fields ≡ true = sym (list_fits records names keys x (inner ps) copied_by at m (fields d.fields) o is) ∙ h in
         is_made m _ _ (list_made records names keys x (inner ps) copied_by at m (fields d.fields) o is)
         (a_record c (fields_made (map seen (inner ps)) d.fields) m r d l (ap (λ (rs : List RecordDef). slice_get rs r) (sym same_records) ∙ there_is)
-        (fields_start_so ps prior d.fields (bytes_in prior b) (texts_in t) used fits (ap total counted ∙ covered (length d.fields) (map copies (inner ps)) k)))
+        (fields_start_so ps prior d.fields (items_are r d there_is) (bytes_in prior b) (texts_in t) used fits (ap total counted ∙ covered (length d.fields) (map copies (inner ps)) k)))
 
     by_cover : (n : ℕ) (w : Wanted) (k : Bool) → covers n (map copies (inner ps)) ≡ k → wanted records (map copies (inner ps)) (out-Mode m) ≡ if_covered (map copies (inner ps)) n w → (covers n (map copies (inner ps)) ≡ true → wanted records (map copies (inner ps)) (out-Mode m) ≡ w → Goal) → Goal
     by_cover n w true k is go = go k (is ∙ ap (λ (z : Bool). if z then w else nothing) k)
@@ -242,7 +261,7 @@ module _ (c : Scope) (records : List RecordDef) (names : Names) (keys items : Li
       (sym (ap (λ (w : Written). w.fits m) (written_at records names keys x (Start-F.Text bytes at) o)) ∙ h))
   opened x (Start-F.Place i ss) o prior m b t u h =
       is_made m _ _ (ap (λ (w : Written). w.made m) (written_at records names keys x (Start-F.Place i ss) o))
-      (a_name c records same_records i.at ss m (names i.name) (there i.name) (sym (ap (λ (w : Written). w.fits m) (written_at records names keys x (Start-F.Place i ss) o)) ∙ h))
+      (a_name c records same_records items_are i.at ss m (names i.name) (there i.name) (known i.name) (sym (ap (λ (w : Written). w.fits m) (written_at records names keys x (Start-F.Place i ss) o)) ∙ h))
   opened x (Start-F.List ps copied_by at) o prior m b t u h = list_starts_so x ps copied_by at m o prior b t u h
 
   out_roll : (l : Start-F Start) → out-Start (roll-Start l) ≡ l

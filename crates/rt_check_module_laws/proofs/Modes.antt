@@ -1,5 +1,5 @@
 -- Modes that are written in a module may stand where they are written.
-use Rattle.std.proofs.Common.{◌≡◌, ℕ, Bool, true, false, List, [], ◌∷◌, map, Some, if◌then◌else◌, refl, sym, ap, ◌∙◌}
+use Rattle.std.proofs.Common.{◌≡◌, ℕ, Bool, true, false, List, [], ◌∷◌, map, Some, if◌then◌else◌, refl, sym, ap, ◌∙◌, subst}
 use Rattle.std.specs.Prelude.{slice_get}
 use Rattle.std.specs.List.{list_all, AllByRecursion}
 use Rattle.rt_grammar.specs.declared.at.Ident.{Ident}
@@ -22,13 +22,14 @@ use Rattle.rt_check_declared.specs.declared.written.Resolved.{Resolved}
 use Rattle.rt_check_declared.specs.declared.written.Resolved.TheVariants as resolved
 use Rattle.rt_check_declared.specs.Verdicts.{Verdict, fit, unfit, ◌>>=◌}
 use Rattle.rt_check_declared.specs.Written.{Names, judged, length_fits, counted, written}
-use Rattle.rt_check_declared.specs.Fields.{fields_by, fit_fields}
-use Rattle.rt_check_declared.specs.Records.{definition, record_modes}
+use Rattle.rt_check_declared.specs.Fields.{fields_by, faults_by, written_fields, mode_faults}
+use Rattle.rt_exprs.specs.declared.fault.CheckFault.{CheckFault}
+use Rattle.rt_check_declared.specs.Records.{definition, record_modes, field_faults}
 use Rattle.rt_bricks_laws.specs.Shallow.{shallow}
 use Rattle.rt_check_bodies_laws.specs.Standing.{standing_of, AreRecords}
 use Rattle.rt_check_bodies_laws.proofs.Shallow.{written_stands}
 use Rattle.rt_bricks_laws.specs.Modes.{FieldsShallow, ModesShallow}
-use Rattle.rt_bricks_laws.proofs.AllLists.{all_joined, all_mapped, all_true, all_so, all_get}
+use Rattle.rt_bricks_laws.proofs.AllLists.{all_joined, first_nothing, second_nothing, unmapped_nothing, all_mapped, all_true, all_so, all_get}
 
 same_mode : (n m : Mode) → fit (resolved.Mode n) ≡ fit (resolved.Mode m) → n ≡ m
 same_mode n m e = cc
@@ -57,17 +58,19 @@ module _ (names : Names) (records : ℕ) (known : AreRecords records names) wher
   abbrev pub FieldIs : Standing → ℕ → Field → Type 0
   FieldIs p levels f = stands records f.mode p levels 8 ≡ true
 
-  line_stands : (g : Fields) (place : Site) (levels : ℕ) → FieldsShallow levels g → AllByRecursion (FieldIs (standing_of place) levels) (fields_by (written names g.mode place) g.names)
-  line_stands g place levels h = by_written (written names g.mode place) refl where
-    by_written : (v : Verdict Resolved) → written names g.mode place ≡ v → AllByRecursion (FieldIs (standing_of place) levels) (fields_by v g.names)
-    by_written (fit (resolved.Mode m)) e = all_mapped (FieldIs (standing_of place) levels) (λ (i : Ident). let f : Field = record { name = i.name; mode = m } in f) g.names (λ i. mode_stands g.mode place m levels 8 h e)
-    by_written (fit resolved.BadLength) e = tt
-    by_written (unfit f fs) e = tt
+  line_stands : (g : Fields) (place : Site) (levels : ℕ) → FieldsShallow levels g → faults_by (written names g.mode place) g.names ≡ [] → AllByRecursion (FieldIs (standing_of place) levels) (fields_by (written names g.mode place) g.names)
+  line_stands g place levels h none = by_written (written names g.mode place) refl none where
+    by_written : (v : Verdict Resolved) → written names g.mode place ≡ v → faults_by v g.names ≡ [] → AllByRecursion (FieldIs (standing_of place) levels) (fields_by v g.names)
+    by_written (fit (resolved.Mode m)) e q = all_mapped (FieldIs (standing_of place) levels) (λ (i : Ident). let f : Field = record { name = i.name; mode = m } in f) g.names (λ i. mode_stands g.mode place m levels 8 h e)
+    by_written (fit resolved.BadLength) e q = subst (λ (is : List Ident). AllByRecursion (FieldIs (standing_of place) levels) (fields_by (fit resolved.BadLength) is)) (sym (unmapped_nothing _ g.names q)) tt
+    by_written (unfit f fs) e q = absurd cc
 
-  pub fields_stand : (place : Site) (levels : ℕ) (gs : List Fields) → AllByRecursion (FieldsShallow levels) gs → AllByRecursion (FieldIs (standing_of place) levels) (fit_fields names place gs)
-  fields_stand place levels [] h = tt
-  fields_stand place levels (g ∷ gs) h =
-      all_joined (FieldIs (standing_of place) levels) (fields_by (written names g.mode place) g.names) (fit_fields names place gs) (line_stands g place levels h.0) (fields_stand place levels gs h.1)
+  pub fields_stand : (place : Site) (levels : ℕ) (gs : List Fields) → AllByRecursion (FieldsShallow levels) gs → mode_faults names place gs ≡ [] → AllByRecursion (FieldIs (standing_of place) levels) (written_fields names place gs)
+  fields_stand place levels [] h none = tt
+  fields_stand place levels (g ∷ gs) h none =
+      let here : List CheckFault = faults_by (written names g.mode place) g.names in
+      let more : List CheckFault = mode_faults names place gs in
+      all_joined (FieldIs (standing_of place) levels) (fields_by (written names g.mode place) g.names) (written_fields names place gs) (line_stands g place levels h.0 (first_nothing here more none)) (fields_stand place levels gs h.1 (second_nothing here more none))
 
   -- ---- records
 
@@ -87,19 +90,22 @@ module _ (names : Names) (records : ℕ) (known : AreRecords records names) wher
   abbrev DefinitionStands : RecordDef → Type 0
   DefinitionStands d = AllByRecursion (FieldIs standing.Alone 100) d.fields
 
-  defined : (rs : List RecordMode) → AllByRecursion RecordShallow rs → AllByRecursion DefinitionStands (map (definition names) rs)
-  defined [] h = tt
-  defined (r ∷ rs) h = (fields_stand site.Item 100 r.fields h.0, defined rs h.1)
+  abbrev FieldsFit : RecordMode → Type 0
+  FieldsFit r = field_faults names r ≡ []
 
-  definitions_stand : (ds : List Declaration) → AllByRecursion ModesShallow ds → AllByRecursion DefinitionStands (map (definition names) (record_modes ds))
-  definitions_stand ds h = defined (record_modes ds) (shallow_records ds h)
+  defined : (rs : List RecordMode) → AllByRecursion RecordShallow rs → AllByRecursion FieldsFit rs → AllByRecursion DefinitionStands (map (definition names) rs)
+  defined [] h fits = tt
+  defined (r ∷ rs) h fits = (fields_stand site.Item 100 r.fields h.0 fits.0, defined rs h.1 fits.1)
 
-  pub records_stand : (ds : List Declaration) → AllByRecursion ModesShallow ds → list_all (record_stands records) (map (definition names) (record_modes ds)) ≡ true
-  records_stand ds h =
+  definitions_stand : (ds : List Declaration) → AllByRecursion ModesShallow ds → AllByRecursion FieldsFit (record_modes ds) → AllByRecursion DefinitionStands (map (definition names) (record_modes ds))
+  definitions_stand ds h fits = defined (record_modes ds) (shallow_records ds h) fits
+
+  pub records_stand : (ds : List Declaration) → AllByRecursion ModesShallow ds → AllByRecursion FieldsFit (record_modes ds) → list_all (record_stands records) (map (definition names) (record_modes ds)) ≡ true
+  records_stand ds h fits =
       all_true (record_stands records) (map (definition names) (record_modes ds))
-      (all_so DefinitionStands (λ d. record_stands records d ≡ true) (map (definition names) (record_modes ds)) (λ d k. all_true (field_stands records) d.fields k) (definitions_stand ds h))
+      (all_so DefinitionStands (λ d. record_stands records d ≡ true) (map (definition names) (record_modes ds)) (λ d k. all_true (field_stands records) d.fields k) (definitions_stand ds h fits))
 
-  pub records_have_items : (ds : List Declaration) → AllByRecursion ModesShallow ds → (r : ℕ) (d : RecordDef) → slice_get (map (definition names) (record_modes ds)) r ≡ Some d → HasItems d
-  records_have_items ds h r d e =
+  pub records_have_items : (ds : List Declaration) → AllByRecursion ModesShallow ds → AllByRecursion FieldsFit (record_modes ds) → (r : ℕ) (d : RecordDef) → slice_get (map (definition names) (record_modes ds)) r ≡ Some d → HasItems d
+  records_have_items ds h fits r d e =
       all_so (FieldIs standing.Alone 100) (λ (f : Field). IsItem f.mode) d.fields (λ f k. alone_is_item records f.mode k)
-      (all_get DefinitionStands (map (definition names) (record_modes ds)) r d (definitions_stand ds h) e)
+      (all_get DefinitionStands (map (definition names) (record_modes ds)) r d (definitions_stand ds h fits) e)

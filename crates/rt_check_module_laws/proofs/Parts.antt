@@ -20,7 +20,7 @@ use Rattle.rt_bricks_laws.proofs.AllLists.{some_is, no_some, all_mapped, unmappe
 module _ (P : List ℕ → Mode → Type 0) where
   abbrev pub GivenHas : List ℕ → Given → Type 0
   GivenHas n (given.Mode m) = P n m
-  GivenHas n (given.Unfit f) = ⊥
+  GivenHas n given.Unknown = ⊥
 
   -- an item is declared with a mode of which this holds
   abbrev pub PartHas : Part → Type 0
@@ -42,7 +42,7 @@ module _ (P : List ℕ → Mode → Type 0) where
   more_fields : (p : Part) (ps : List Part) → PartHas p → AreFields ps → AreFields (p ∷ ps)
   more_fields p ps h z = by_given p.has refl h where
     by_given : (g : Given) → p.has ≡ g → GivenHas p.name g → AreFields (p ∷ ps)
-    by_given (given.Unfit f) e h = absurd h
+    by_given given.Unknown e h = absurd h
     by_given (given.Mode m) e h = record {
       fields = record { name = p.name; mode = m } ∷ z.fields;
       is = ap (λ (g : Given). with_field p.name g (all_fields ps)) e ∙ ap (with_field p.name (given.Mode m)) z.is;

@@ -22,12 +22,12 @@ use Rattle.rt_check_declared.specs.Bricks.{procedure as heading_of}
 use Rattle.rt_check_bodies_laws.specs.Within.{SortRead}
 use Rattle.rt_check_bodies_laws.proofs.Modules.{modules_within}
 use Rattle.rt_check_module.specs.declared.filling.Filling.{Filling}
-use Rattle.rt_check_module.specs.Tree.{Faults, nothing, first, sort_by, filled, gathered, fillings_in, headings, records, sight, tree, Somewhere, modes_seen}
+use Rattle.rt_check_module.specs.Tree.{nothing, first, sort_by, filled, gathered, fillings_in, records, sight, tree, modes_seen}
 use Rattle.rt_check_module.specs.Faults.{inside}
-use Rattle.rt_check_module.specs.Faults.{Inside}
 use Rattle.rt_check_module_laws.specs.Modules.{IsText, IsFaultless}
 use Rattle.rt_check_module_laws.proofs.Bricks.{headings_counted, fillings_counted, drop_joined, filled_joined}
-use Rattle.rt_check_module_laws.proofs.Holding.{nothing_in, all_declared, names_are_held}
+use Rattle.rt_check_module_laws.proofs.Holding.{names_are_held}
+use Rattle.rt_check_module_laws.proofs.Records.{nothing_in}
 use Rattle.rt_bricks_laws.proofs.AllLists.{all_joined}
 use Rattle.rt_check_module_laws.proofs.Whole.{NoneInside, none_inside, module_fits}
 
@@ -37,7 +37,7 @@ module _ (s : Sight) (m : Module) where
 
   empty_read : (x : Sort) → SortRead s m (sort_by x nothing)
   empty_read (sort.Procedure (given.Mode w)) = tt
-  empty_read (sort.Procedure (given.Unfit g)) = tt
+  empty_read (sort.Procedure given.Unknown) = tt
   empty_read (sort.Items ps) = tt
   empty_read (sort.Stack n) = tt
 
@@ -55,7 +55,7 @@ module _ (s : Sight) (m : Module) where
     one_read (declares.Procedure p) k hs h e = (by_heading (heading_of names p), tt) where
       by_heading : (g : Given) → SortRead s m (sort_by (sort.Procedure g) (record { body = Some (procedure s p); starts = [] }))
       by_heading (given.Mode w) = record { brick = p; place = k; there = e; none = nothing_in (faults s p) h; is = refl }
-      by_heading (given.Unfit g) = tt
+      by_heading given.Unknown = tt
     one_read (declares.ImportedProcedures p) k hs h e = all_empty (bricks_in names (declares.ImportedProcedures p)) (length p.names)
     one_read (declares.ImportedData d) k hs h e = (tt, tt)
     one_read (declares.ImportedStacks x) k hs h e = all_empty (bricks_in names (declares.ImportedStacks x)) (length x.names)
@@ -74,11 +74,10 @@ module _ (s : Sight) (m : Module) where
         (subst (AllByRecursion BrickRead) (sym (filled_joined xs ys fs (gathered (fillings_in s) ys ds) (fillings_counted s names d (first (xs ++ ys)))))
         (all_joined BrickRead (filled xs fs) (filled ys (gathered (fillings_in s) ys ds)) (one_read d k ys h.0 here) (all_read ds (suc k) next h.1)))
 
-pub module_within : (items : List Item) (m : Module) (us : Faults) → IsText items m → IsFaultless m.declarations us → Within (tree m us)
-module_within items m us t h =
+pub module_within : (items : List Item) (m : Module) → IsText items m → IsFaultless m.declarations → Within (tree m)
+module_within items m t h =
     let ds : List Declaration = m.declarations in
-    let s : Sight = sight ds us in
-    let e : headings ds us ≡ bricks (modes_seen ds) ds = all_declared ds us h in
-    let none = none_inside (records ds) s (modes_seen ds) ds (λ g k. h.none g (inside (subst (λ (hs : List Heading). Somewhere (Inside s (records ds) g) hs ds) (sym e) k))) in
-    let read = subst (λ (hs : List Heading). AllByRecursion (BrickRead s m) (filled hs (gathered (fillings_in s) hs ds))) (sym e) (all_read s m (modes_seen ds) ds 0 (λ i d q. ap (slice_get ds) (let z : 0 + i ≡ i = omega arith in z) ∙ q) none) in
-    modules_within items m (tree m us) s t.few t.derived (module_fits items m us t h) (record { outside = λ ls seen. names_are_held items m us ls seen t h; bodies = read })
+    let s : Sight = sight ds in
+    let none = none_inside (records ds) s (modes_seen ds) ds (λ g k. h g (inside k)) in
+    let read = all_read s m (modes_seen ds) ds 0 (λ i d q. ap (slice_get ds) (let z : 0 + i ≡ i = omega arith in z) ∙ q) none in
+    modules_within items m (tree m) s t.few t.derived (module_fits items m t h) (record { outside = λ ls seen. names_are_held items m ls seen t h; bodies = read })

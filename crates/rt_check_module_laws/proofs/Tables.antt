@@ -20,7 +20,7 @@ use Rattle.rt_check_declared.specs.declared.written.Resolved.TheVariants as reso
 use Rattle.rt_check_declared.specs.Verdicts.{Verdict, fit, unfit}
 use Rattle.rt_check_declared.specs.Written.{Names, written}
 use Rattle.rt_check_declared.specs.Names.{name_faults}
-use Rattle.rt_check_declared.specs.Fields.{fields_by, fit_fields}
+use Rattle.rt_check_declared.specs.Fields.{fields_by, written_fields}
 use Rattle.rt_check_declared.specs.Records.{definition, record_modes}
 use Rattle.rt_bricks_laws.proofs.AllLists.{all_joined, all_get, true_all}
 use Rattle.rt_bricks_laws.specs.Spelled.{IsSpelledName}
@@ -43,20 +43,21 @@ are_fields t (f ∷ fs) h k = (is_field t f h.0 k.0, are_fields t fs h.1 k.1)
 ids_named : (m : Resolved) (ids : List Ident) → AllByRecursion IdentSpelled ids → AllByRecursion FieldNamed (fields_by (fit m) ids)
 ids_named (resolved.Mode m) [] h = tt
 ids_named (resolved.Mode m) (i ∷ ids) h = (h.0, ids_named (resolved.Mode m) ids h.1)
-ids_named resolved.BadLength ids h = tt
+ids_named resolved.BadLength [] h = tt
+ids_named resolved.BadLength (i ∷ ids) h = (h.0, ids_named resolved.BadLength ids h.1)
 
 line_named : (v : Verdict Resolved) (ids : List Ident) → AllByRecursion IdentSpelled ids → AllByRecursion FieldNamed (fields_by v ids)
 line_named (fit m) ids h = ids_named m ids h
-line_named (unfit f fs) ids h = tt
+line_named (unfit f fs) ids h = ids_named resolved.BadLength ids h
 
 abbrev DefinitionSpelled : RecordDef → Type 0
 DefinitionSpelled d = IsSpelledName d.name × AllByRecursion FieldNamed d.fields
 
 module _ (names : Names) where
-  fields_named : (place : Site) (gs : List Fields) → AllByRecursion FieldsSpelled gs → AllByRecursion FieldNamed (fit_fields names place gs)
+  fields_named : (place : Site) (gs : List Fields) → AllByRecursion FieldsSpelled gs → AllByRecursion FieldNamed (written_fields names place gs)
   fields_named place [] h = tt
   fields_named place (g ∷ gs) h =
-      all_joined FieldNamed (fields_by (written names g.mode place) g.names) (fit_fields names place gs) (line_named (written names g.mode place) g.names h.0) (fields_named place gs h.1)
+      all_joined FieldNamed (fields_by (written names g.mode place) g.names) (written_fields names place gs) (line_named (written names g.mode place) g.names h.0) (fields_named place gs h.1)
 
   -- ---- records
 

@@ -126,7 +126,7 @@ module _ (records : List RecordDef) where
   given_short : (o : Option Start) (g : Given) → AllShort (in_any o []) → AllShort (start_texts records o g)
   given_short None g h = tt
   given_short (Some x) (given.Mode m) h = start_kept (used records x m) x h
-  given_short (Some x) (given.Unfit u) h = tt
+  given_short (Some x) given.Unknown h = tt
 
   items_short : (is : List DataItem) (ps : List Part) → AllShort (in_items is []) → AllShort (items_texts records is ps)
   items_short [] ps h = tt

@@ -48,7 +48,7 @@ ItemPlain n m = IsItem m
 -- The modes of procedures are values, those of items may be items; LABEL stands in SVC data alone.
 abbrev pub SortGood : Bool → Sort → Type 0
 SortGood svc (sort.Procedure (given.Mode m)) = IsValue m
-SortGood svc (sort.Procedure (given.Unfit g)) = Unit {0}
+SortGood svc (sort.Procedure given.Unknown) = ⊥
 SortGood svc (sort.Items ps) = AllByRecursion (PartHas ItemGood) ps × (svc ≡ false → AllByRecursion (PartHas ItemPlain) ps)
 SortGood svc (sort.Stack n) = Unit {0}
 
@@ -113,7 +113,7 @@ module _ (c : Scope) (errors_are : c.errors ≡ errors_of c.bricks) (streams_are
   pub meaning_there : (b : ℕ) (k : Kind) (n : List ℕ) (s : Sort) (f : Filling) → slice_get c.bricks b ≡ Some (face (tree_brick (record { kind = k; name = n; sort = s }) f))
       → SortGood (is_svc k) s → IsThere c (brick_by b s)
   meaning_there b k n (sort.Procedure (given.Mode m)) f e good = (ap (λ (o : Option Face). with o proc_of) e, good)
-  meaning_there b k n (sort.Procedure (given.Unfit g)) f e good = tt
+  meaning_there b k n (sort.Procedure given.Unknown) f e good = absurd good
   meaning_there b k n (sort.Items ps) f e good = tt
   meaning_there b k n (sort.Stack w) f e good = tt
 
@@ -211,7 +211,7 @@ module _ (c : Scope) (errors_are : c.errors ≡ errors_of c.bricks) (streams_are
       parts_there j None e g = tt
       parts_there j (Some p) e g = by_given p.has refl (all_get (PartHas ItemGood) ps j p g e) where
         by_given : (x : Given) → p.has ≡ x → GivenHas ItemGood p.name x → IsThere c (given_as k (Some (own_of h)) b j x)
-        by_given (given.Unfit u) q w = tt
+        by_given given.Unknown q w = tt
         by_given (given.Mode m) q w = moded j p m e q w
 
   pub item_there : (b j : ℕ) (k : Kind) (n : List ℕ) (s : Sort) (f : Filling) → slice_get c.bricks b ≡ Some (face (tree_brick (record { kind = k; name = n; sort = s }) f))
@@ -255,14 +255,15 @@ module _ (c : Scope) (errors_are : c.errors ≡ errors_of c.bricks) (streams_are
     unlabelled seen (meaning.Svc i m) h = tt
     unlabelled seen (meaning.Local i m) h = tt
     unlabelled seen (meaning.Loop i) h = tt
-    unlabelled seen (meaning.Unfit g) h = tt
+    unlabelled seen meaning.UnknownProc h = tt
+    unlabelled seen meaning.Unknown h = tt
 
     brick_no_label : (b : ℕ) (o : Option Heading) → NoLabel (brick_in b o)
     brick_no_label b None = tt
     brick_no_label b (Some h) = by_sort h.sort where
       by_sort : (s : Sort) → NoLabel (brick_by b s)
       by_sort (sort.Procedure (given.Mode m)) = tt
-      by_sort (sort.Procedure (given.Unfit g)) = tt
+      by_sort (sort.Procedure given.Unknown) = tt
       by_sort (sort.Items ps) = tt
       by_sort (sort.Stack n) = tt
 
@@ -287,7 +288,7 @@ module _ (c : Scope) (errors_are : c.errors ≡ errors_of c.bricks) (streams_are
     with_no_label k None b j m = shared_no_label (is_svc k) b j m
 
     given_no_label : (k : Kind) (o : Option (Option Own)) (b j : ℕ) (g : Given) → NoLabel (given_as k o b j g)
-    given_no_label k o b j (given.Unfit g) = tt
+    given_no_label k o b j given.Unknown = tt
     given_no_label k o b j (given.Mode m) = with_no_label k o b j m
 
     part_no_label : (k : Kind) (o : Option (Option Own)) (b j : ℕ) (p : Option Part) → NoLabel (item_by k o b j p)

@@ -1,5 +1,5 @@
 -- Each node of the tree of a module in which no fault stands fits.
-use Rattle.std.proofs.Common.{◌≡◌, inl, inr, ℕ, ◌&&◌, Bool, true, List, [], ◌∷◌, ◌++◌, length, Option, None, refl, sym, ap, subst}
+use Rattle.std.proofs.Common.{◌≡◌, inl, inr, ℕ, ◌&&◌, Bool, true, List, [], ◌∷◌, ◌++◌, length, Option, Some, None, refl, sym, ap, subst}
 use Rattle.std.specs.List.{list_all, AllByRecursion}
 use Rattle.rt_bricks.specs.declared.tree.DataBrick.{DataBrick}
 use Rattle.rt_bricks.specs.declared.tree.Declaration.{Declaration}
@@ -17,7 +17,6 @@ use Rattle.rt_tree.specs.Modules.{record_stands, brick_fits, is_short, every_nod
 use Rattle.rt_tree.specs.Statements.{Sight as Seen}
 use Rattle.rt_exprs_laws.specs.Agreeing.{Agree}
 use Rattle.rt_check_declared.specs.declared.site.Site.TheVariants as site
-use Rattle.rt_check_declared.specs.Unfit.{unfit_record}
 use Rattle.rt_check_declared.specs.Verdicts.{IsIn}
 use Rattle.rt_check_declared.specs.Written.{Names}
 use Rattle.rt_check_bodies.specs.Sights.{Sight, set_of}
@@ -26,7 +25,7 @@ use Rattle.rt_check_bodies.specs.Procedures.{procedure, faults, nothing_yet, par
 use Rattle.rt_check_declared.specs.Names.{scope}
 use Rattle.rt_check_module.specs.Levels.{module_names}
 use Rattle.rt_check_declared.specs.Names.{bricks_in as brick_count}
-use Rattle.rt_check_declared.specs.Fields.{fit_fields, mode_faults}
+use Rattle.rt_check_declared.specs.Fields.{written_fields, mode_faults}
 use Rattle.rt_check_declared.specs.declared.bricks.Heading.{Heading}
 use Rattle.rt_check_declared.specs.declared.parts.Part.{Part}
 use Rattle.rt_check_declared.specs.Bricks.{result_faults, bricks_in, bricks, faults_in, brick_faults}
@@ -35,7 +34,7 @@ use Rattle.rt_check_starts.specs.Bricks.{BrickFault, in_items}
 use Rattle.rt_check_starts.specs.Items.{brick_starts}
 use Rattle.rt_check_starts.specs.Items.{brick_faults as start_faults}
 use Rattle.rt_check_starts.specs.Strings.{brick_texts}
-use Rattle.rt_check_bodies_laws.specs.Held.{Holds, ResultIs}
+use Rattle.rt_check_bodies_laws.specs.Held.{Holds, IsKnown, AllKnown, ResultIs}
 use Rattle.rt_check_bodies_laws.specs.Standing.{AreRecords}
 use Rattle.rt_check_bodies_laws.proofs.Brick.{procedure_accepted}
 use Rattle.rt_check_bodies_laws.proofs.Holding.{agrees}
@@ -48,9 +47,9 @@ use Rattle.rt_bricks_laws.proofs.Labels.{labels_few}
 use Rattle.rt_check_bodies_laws.specs.Named.{IsRecord, NamesRecords}
 use Rattle.rt_check_bodies_laws.proofs.Procedures.{few_locals}
 use Rattle.rt_check_bodies_laws.proofs.StandingBodies.{locals_stand}
-use Rattle.rt_check_module_laws.specs.Starts.{BeginAt, IsReady}
+use Rattle.rt_check_module_laws.specs.Starts.{BeginAt, GivenStands, IsReady}
 use Rattle.rt_check_module_laws.proofs.StartBricks.{starts_fit, each_item_has_a_part}
-use Rattle.rt_check_module.specs.Tree.{Faults, first, Somewhere, nothing, modes_seen, records, headings, gathered, fillings_in, filled, texts_from, texts, sight, tree}
+use Rattle.rt_check_module.specs.Tree.{first, Somewhere, nothing, modes_seen, records, headings, gathered, fillings_in, filled, texts, sight, tree}
 use Rattle.rt_check_module.specs.Faults.{inside}
 use Rattle.rt_check_module.specs.Faults.{Inside}
 use Rattle.rt_check_module_laws.specs.Modules.{IsText, IsFaultless}
@@ -58,15 +57,21 @@ use Rattle.rt_check_module_laws.proofs.Below.{names_below}
 use Rattle.rt_check_module_laws.proofs.Bricks.{drop_joined, headings_counted, Fits, all_fit, stack_fits, stacks_fit, imported_procedures_fit, procedure_brick_fits, own_data_fits, imported_data_fits}
 use Rattle.rt_check_module_laws.proofs.Headings.{ItemStands, ItemAllowed, items_stand, parts_allowed, is_headed}
 use Rattle.rt_check_module_laws.proofs.Heads.{modes_of, ResultValue, heads_are, result_is}
-use Rattle.rt_check_module_laws.proofs.Holding.{nothing_in, no_brick_faults, all_declared, names_are_held}
+use Rattle.rt_check_module_laws.proofs.Holding.{no_brick_faults, good_headings, names_are_held}
+use Rattle.rt_check_module_laws.proofs.Knowing.{names_known}
+use Rattle.rt_check_bodies_laws.proofs.Each.{found_each}
+use Rattle.rt_exprs_laws.proofs.Passing.{alone_is_item}
+use Rattle.rt_exprs.specs.declared.scope.Meaning.{Meaning}
+use Rattle.rt_tree.specs.declared.standing.Standing.TheVariants as standing
+use Rattle.rt_check_declared.specs.declared.parts.Given.{Given}
+use Rattle.rt_check_declared.specs.declared.parts.Given.TheVariants as given
 use Rattle.rt_check_module_laws.proofs.Known.{scope_once, scope_below}
 use Rattle.rt_check_module_laws.proofs.Levels.{SameModes, same_modes}
 use Rattle.rt_bricks_laws.proofs.AllLists.{both_true, first_nothing, second_nothing}
-use Rattle.rt_check_module_laws.proofs.Parts.{are_fields}
+use Rattle.rt_check_module_laws.proofs.Parts.{PartHas, GivenHas, are_fields}
 use Rattle.rt_check_module_laws.proofs.Procs.{ModeIsProc, modes_are_proc}
-use Rattle.rt_check_module_laws.proofs.Records.{record_count, modes_are_records, text_shallow, none_stands, all_stand}
+use Rattle.rt_check_module_laws.proofs.Records.{record_count, modes_are_records, text_shallow, nothing_in, all_stand, records_whole, held_below}
 use Rattle.rt_check_module_laws.proofs.Texts.{ShortIn, texts_short, short_bytes, module_short, TextsThere, all_there}
-use Rattle.rt_check_module_laws.proofs.Unfit.{mode_free}
 
 -- no fault stands inside a declaration
 abbrev pub NoneInside : Table → Sight → Names → Declaration → Type 0
@@ -109,15 +114,15 @@ record Known (t : Table) (s : Sight) (names : Names) (ts : List (ℕ × List ℕ
   there : TextsThere t.records names ts d
   fits : NoneInside t s names d
 
-module _ (items : List Item) (m : Module) (us : Faults) (text : IsText items m) (fine : IsFaultless m.declarations us) where
+module _ (items : List Item) (m : Module) (text : IsText items m) (fine : IsFaultless m.declarations) where
   abbrev ds : List Declaration
   ds = m.declarations
 
   abbrev c : Scope
-  c = scope_of (tree m us)
+  c = scope_of (tree m)
 
   abbrev s : Sight
-  s = sight ds us
+  s = sight ds
 
   abbrev names : Names
   names = modes_seen ds
@@ -129,48 +134,59 @@ module _ (items : List Item) (m : Module) (us : Faults) (text : IsText items m) 
   known = modes_are_records ds
 
   holds : (ls : List Local) (seen : Seen) → Holds (with_locals c ls) s seen
-  holds ls seen = names_are_held items m us ls seen text fine
+  holds ls seen = names_are_held items m ls seen text fine
 
   agree : Agree (names_of s) c
   agree = agrees c s (record { seen = []; outermost = 0; result = None }) (holds [] (record { seen = []; outermost = 0; result = None }))
 
-  same : SameModes names (find (names_of s))
-  same = same_modes (headings ds us) (scope ds) (scope_once ds)
+  all_seen_known : AllKnown s
+  all_seen_known = (names_known (headings ds) (good_headings items m text fine) (scope ds), tt)
 
-  free : (x : Mode) → unfit_record us x ≡ None
-  free = mode_free us (none_stands ds us fine)
+  known_names : (name : List ℕ) (is : Meaning) → find (names_of s) name ≡ Some is → IsKnown is
+  known_names name is e = found_each IsKnown name s.levels is all_seen_known e
+
+  -- the items of own data may stand, and the records that they hold are there
+  parts_stand : (ps : List Part) → AllByRecursion (PartHas (ItemStands n)) ps → AllByRecursion (λ (p : Part). GivenStands (records ds).records p.has) ps
+  parts_stand [] h = tt
+  parts_stand (p ∷ ps) h = (by_given p.has h.0, parts_stand ps h.1) where
+    by_given : (g : Given) → GivenHas (ItemStands n) p.name g → GivenStands (records ds).records g
+    by_given (given.Mode x) h = (alone_is_item n x h, λ r q. held_below n x standing.Alone 100 8 r h q)
+    by_given given.Unknown h = tt
+
+  same : SameModes names (find (names_of s))
+  same = same_modes (headings ds) (scope ds) (scope_once ds)
 
   named : NamesRecords n s
-  named = (subst (λ (k : ℕ). AllByRecursion (λ x. IsRecord k x.1) (module_names (headings ds us) (scope ds))) (sym (record_count ds)) (names_below _ (headings ds us) (scope ds) (scope_below ds)), tt)
+  named = (subst (λ (k : ℕ). AllByRecursion (λ x. IsRecord k x.1) (module_names (headings ds) (scope ds))) (sym (record_count ds)) (names_below _ (headings ds) (scope ds) (scope_below ds)), tt)
 
   -- ---- procedures
 
-  procedure_fits : (p : ProcedureBrick) → Known (records ds) s names (texts ds us) (declares.Procedure p) → Fits c s names (declares.Procedure p)
+  procedure_fits : (p : ProcedureBrick) → Known (records ds) s names (texts ds) (declares.Procedure p) → Fits c s names (declares.Procedure p)
   procedure_fits p k hs =
       let z = is_headed names n known p k.none k.shallow in
       let none : faults s p ≡ [] = nothing_in (faults s p) k.fits in
-      let heads = heads_are names s same free [] p.fields nothing_yet (first_nothing (mode_faults names site.Variable p.fields) (result_faults names p.name p.result) k.none) in
-      let answers = result_is names s same free p.at p.name p.result (parameters s [] p.fields nothing_yet).1 (second_nothing (mode_faults names site.Variable p.fields) (result_faults names p.name p.result) k.none) (subst ResultValue z.written_so z.value) in
+      let heads = heads_are names s same [] p.fields nothing_yet (first_nothing (mode_faults names site.Variable p.fields) (result_faults names p.name p.result) k.none) in
+      let answers = result_is names s same p.at p.name p.result (parameters s [] p.fields nothing_yet).1 (second_nothing (mode_faults names site.Variable p.fields) (result_faults names p.name p.result) k.none) (subst ResultValue z.written_so z.value) in
       let answered : ResultIs (answer_in s p.at p.result (parameters s [] p.fields nothing_yet).1).0 z.result = subst (λ (r : Option Mode). ResultIs (answer_in s p.at p.result (parameters s [] p.fields nothing_yet).1).0 r) (sym z.written_so) answers in
       let few = few_locals s p (record { broad = k.broad; parts = k.items.0; few = k.items.1 }) in
       let standing_all = locals_stand n s p k.shallow named in
-      let fits = procedure_accepted c s p (modes_of (fit_fields names site.Variable p.fields)) z.result (λ seen. holds (procedure s p).locals seen) few standing_all heads answered k.broad k.labels none in
+      let fits = procedure_accepted c s p (modes_of (written_fields names site.Variable p.fields)) z.result (λ seen. holds (procedure s p).locals seen) all_seen_known few standing_all heads answered k.broad k.labels none in
       both_true _ true (procedure_brick_fits c n refl names known s p z fits) refl
 
   -- ---- data
 
-  data_fits : (d : DataBrick) → Known (records ds) s names (texts ds us) (declares.Data d) → Fits c s names (declares.Data d)
+  data_fits : (d : DataBrick) → Known (records ds) s names (texts ds) (declares.Data d) → Fits c s names (declares.Data d)
   data_fits d k hs =
       let ps : List Part = item_parts names d.lines in
       let z = are_fields (ItemStands n) ps (items_stand names n known d.lines k.none k.shallow) in
       let none : start_faults (names_of s) d.lines ps ≡ [] = nothing_in (start_faults (names_of s) d.lines ps) (λ g e. k.fits g (in_items e)) in
       let there : BeginAt (set_of s.strings).keys (brick_texts (records ds).records d.lines ps) = subst (λ (ks : List ℕ). BeginAt ks (brick_texts (records ds).records d.lines ps)) (sym (key_list s.strings)) k.there in
-      let ready : IsReady (names_of s) c d.lines ps = record { agree = agree; parts = each_item_has_a_part names d.lines; bytes = short_bytes (in_lines d.lines []) k.short; strings = there } in
+      let ready : IsReady (names_of s) c d.lines ps = record { agree = agree; known = known_names; whole = records_whole ds (text_shallow items m text) fine; stand = parts_stand ps (items_stand names n known d.lines k.none k.shallow); parts = each_item_has_a_part names d.lines; bytes = short_bytes (in_lines d.lines []) k.short; strings = there } in
       both_true _ true (own_data_fits c n refl d ps (brick_starts (names_of s) d.lines ps) z (starts_fit (names_of s) c d.lines ps z.fields ready z.is none)) refl
 
   -- ---- all bricks
 
-  one_fits : (d : Declaration) → Known (records ds) s names (texts ds us) d → Fits c s names d
+  one_fits : (d : Declaration) → Known (records ds) s names (texts ds) d → Fits c s names d
   one_fits (declares.Record r) k hs = refl
   one_fits (declares.Data d) k hs = data_fits d k hs
   one_fits (declares.Stack x) k hs = both_true _ true (stack_fits c n refl x nothing k.none) refl
@@ -182,25 +198,21 @@ module _ (items : List Item) (m : Module) (us : Faults) (text : IsText items m) 
   one_fits (declares.ImportedStacks x) k hs = stacks_fit c n refl x.names
 
   all_known : (es : List Declaration) → brick_faults names es ≡ [] → AllByRecursion ModesShallow es → AllByRecursion ModeIsProc es → AllByRecursion BodyIsBroad es → AllByRecursion ItemsCounted es → AllByRecursion LabelsFew es → AllByRecursion ShortIn es
-      → AllByRecursion (TextsThere (records ds).records names (texts ds us)) es → AllByRecursion (NoneInside (records ds) s names) es → AllByRecursion (Fits c s names) es
+      → AllByRecursion (TextsThere (records ds).records names (texts ds)) es → AllByRecursion (NoneInside (records ds) s names) es → AllByRecursion (Fits c s names) es
   all_known [] e a b d f g h i j = tt
   all_known (x ∷ es) e a b d f g h i j = (
     one_fits x (record { none = first_nothing (faults_in names x) (brick_faults names es) e; shallow = a.0; proc = b.0; broad = d.0; items = f.0; labels = g.0; short = h.0; there = i.0; fits = j.0 }),
     all_known es (second_nothing (faults_in names x) (brick_faults names es) e) a.1 b.1 d.1 f.1 g.1 h.1 i.1 j.1,
   )
 
-  declared_is : headings ds us ≡ bricks names ds
-  declared_is = all_declared ds us fine
-
-  bricks_fit : list_all (brick_fits c) (filled (headings ds us) (gathered (fillings_in s) (headings ds us) ds)) ≡ true
+  bricks_fit : list_all (brick_fits c) (filled (headings ds) (gathered (fillings_in s) (headings ds) ds)) ≡ true
   bricks_fit =
-      subst (λ (hs : List Heading). list_all (brick_fits c) (filled hs (gathered (fillings_in s) hs ds)) ≡ true) (sym declared_is)
-      (all_fit c s names ds (all_known ds (no_brick_faults ds us fine) (text_shallow items m text) (modes_are_proc items m text.derived) (bodies_broad items m text.derived) (items_counted items m text.few text.derived) (labels_few items m text.few text.derived)
+      all_fit c s names ds (all_known ds (no_brick_faults ds fine) (text_shallow items m text) (modes_are_proc items m text.derived) (bodies_broad items m text.derived) (items_counted items m text.few text.derived) (labels_few items m text.few text.derived)
       (texts_short items m text)
-      (all_there (records ds).records names [] ds (texts ds us) (ap (λ (hs : List Heading). texts_from (records ds).records [] hs ds) declared_is))
-      (none_inside (records ds) s names ds (λ g k. fine.none g (inside (subst (λ (hs : List Heading). Somewhere (Inside s (records ds) g) hs ds) (sym declared_is) k))))))
+      (all_there (records ds).records names [] ds (texts ds) refl)
+      (none_inside (records ds) s names ds (λ g k. fine g (inside k))))
 
-  pub module_fits : every_node_fits (tree m us) ≡ true
+  pub module_fits : every_node_fits (tree m) ≡ true
   module_fits =
-      both_true (list_all (record_stands n) (records ds).records) (list_all (brick_fits c) (tree m us).bricks && list_all is_short (tree m us).strings) (all_stand ds (text_shallow items m text))
-      (both_true (list_all (brick_fits c) (tree m us).bricks) (list_all is_short (tree m us).strings) bricks_fit (module_short (records ds).records (headings ds us) ds (texts_short items m text)))
+      both_true (list_all (record_stands n) (records ds).records) (list_all (brick_fits c) (tree m).bricks && list_all is_short (tree m).strings) (all_stand ds (text_shallow items m text) fine)
+      (both_true (list_all (brick_fits c) (tree m).bricks) (list_all is_short (tree m).strings) bricks_fit (module_short (records ds).records (headings ds) ds (texts_short items m text)))

@@ -1,5 +1,5 @@
 -- The tree of a module in which no fault stands is one of which every node fits.
-use Rattle.std.specs.Prelude.{◌≡◌, ℕ, ◌<◌, true, List, length}
+use Rattle.std.specs.Prelude.{◌≡◌, ◌<◌, true, List, length}
 use Rattle.std.specs.List.{list_all, AllByRecursion}
 use Rattle.rt_bricks.specs.declared.tree.Declaration.{Declaration}
 use Rattle.rt_bricks.specs.declared.tree.Module.{Module}
@@ -12,9 +12,8 @@ use Rattle.rt_items.specs.Ranges.{InRange}
 use Rattle.rt_tree.specs.Modules.{record_stands, every_node_fits}
 use Rattle.rt_tree.specs.Statements.{Sight as Seen}
 use Rattle.rt_tree.specs.Within.{Within}
-use Rattle.rt_check_module.specs.Leads.{Has}
 use Rattle.rt_check_bodies_laws.specs.Held.{Holds}
-use Rattle.rt_check_module.specs.Tree.{Faults, Led, records, sight, tree}
+use Rattle.rt_check_module.specs.Tree.{records, sight, tree}
 use Rattle.rt_check_module.specs.Faults.{Stands}
 
 -- The text of a module: fewer than 65,536 items, each in range, and the module that they derive.
@@ -23,33 +22,28 @@ pub record IsText (items : List Item) (m : Module) : Type 0 where
   pub range : AllByRecursion InRange items
   pub derived : Derives items m
 
--- No fault stands in the module, where of each record this is the fault to which it leads.
-pub record IsFaultless (ds : List Declaration) (us : Faults) : Type 0 where
-  pub led : Led ds us
-  pub none : (g : CheckFault) → Stands ds us g → ⊥
+-- No fault stands in the module.
+abbrev pub IsFaultless : List Declaration → Type 0
+IsFaultless ds = (g : CheckFault) → Stands ds g → ⊥
 
 -- ---- records
 
--- no record leads to a fault, and the modes of all fields may stand
-pub record AreFit (ds : List Declaration) (us : Faults) : Type 0 where
-  pub none : (k : ℕ) (g : CheckFault) → Has us k g → ⊥
-  pub stand : list_all (record_stands (length (records ds).records)) (records ds).records ≡ true
-
+-- The modes of all fields are known, and may stand.
 abbrev pub RecordsFit : Type 0
-RecordsFit = (items : List Item) (m : Module) (us : Faults) → IsText items m → IsFaultless m.declarations us → AreFit m.declarations us
+RecordsFit = (items : List Item) (m : Module) → IsText items m → IsFaultless m.declarations → list_all (record_stands (length (records m.declarations).records)) (records m.declarations).records ≡ true
 
 -- ---- names
 
 -- What a procedure sees outside of itself is there in the tree, whatever its locals are.
 abbrev pub NamesHold : Type 0
-NamesHold = (items : List Item) (m : Module) (us : Faults) (ls : List Local) (seen : Seen) → IsText items m → IsFaultless m.declarations us
-    → Holds (with_locals (scope_of (tree m us)) ls) (sight m.declarations us) seen
+NamesHold = (items : List Item) (m : Module) (ls : List Local) (seen : Seen) → IsText items m → IsFaultless m.declarations
+    → Holds (with_locals (scope_of (tree m)) ls) (sight m.declarations) seen
 
 -- ---- the whole
 
 abbrev pub ModulesFit : Type 0
-ModulesFit = (items : List Item) (m : Module) (us : Faults) → IsText items m → IsFaultless m.declarations us → every_node_fits (tree m us) ≡ true
+ModulesFit = (items : List Item) (m : Module) → IsText items m → IsFaultless m.declarations → every_node_fits (tree m) ≡ true
 
 -- and each of its procedures is within what a procedure may take
 abbrev pub ModulesStayWithin : Type 0
-ModulesStayWithin = (items : List Item) (m : Module) (us : Faults) → IsText items m → IsFaultless m.declarations us → Within (tree m us)
+ModulesStayWithin = (items : List Item) (m : Module) → IsText items m → IsFaultless m.declarations → Within (tree m)

@@ -4,7 +4,7 @@ ghost use Rattle.rt_check_module_laws.specs.Modules.{RecordsFit, NamesHold, Modu
 ghost use Rattle.rt_check_module_laws.specs.Tables.{DataItemsAreFields, RecordsAreTables};
 ghost use Rattle.rt_check_module_laws.specs.Starts.{StartsFit, ReadStartsFit, AllAreFields, EachItemHasAPart};
 
-/// In a module in which no fault stands no record leads to a fault, and the modes of all fields may stand.
+/// In a module in which no fault stands the modes of all fields may stand: each is known.
 pub fn records_fit()
     ensures { RecordsFit }
 {}
@@ -38,7 +38,7 @@ pub fn data_items_are_fields()
 
 /// Where names and tree agree, the starts that are made for a data brick fit its items as the typed tree asks: where no fault
 /// stands in the items, and so where the starts are read. Each item of a brick has a part that says what it is declared with;
-/// where no fault stands in the items, that is a mode.
+/// where no fault stands in the modes of its lines, that is a mode.
 pub fn what_is_made_fits()
     ensures made { StartsFit }
     ensures read { ReadStartsFit }

@@ -6,9 +6,9 @@ use Rattle.rt_check_declared.specs.declared.parts.Part.{Part}
 use Rattle.rt_check_declared.specs.Totals.{LargeFault}
 use Rattle.rt_tree_nodes.specs.declared.brick.DataStart.{DataStart}
 use Rattle.rt_exprs.specs.declared.fault.CheckFault.{CheckFault}
-use Rattle.rt_exprs.specs.declared.fault.CheckFault.TheVariants.{Memory, UnknownName, WrongMode, NotAssignable, WrongCount, RefOfLocal, LeftOut, DeclaredTwice, BadStart, UnknownLabel, NoResult}
 use Rattle.rt_exprs.specs.declared.scope.Scope.{Scope}
-use Rattle.rt_exprs.specs.Outcomes.{IsLeast, Settles}
+use Rattle.rt_exprs.specs.Outcomes.{IsLeast, UnlessMemory}
+use Rattle.rt_exprs.proofs.Joins.{given}
 use Rattle.rt_check_declared.specs.Heads.{noted}
 use Rattle.rt_check_declared.specs.Records.{Counts}
 use Rattle.rt_check_declared.proofs.RecordSteps.{drop_next, noted_some}
@@ -57,34 +57,24 @@ module _ (s : Scope) where
 
 -- ---- the brick
 
-settled : (Stands : CheckFault → Type 0) (g : CheckFault) → IsLeast Stands g → Settles Stands g
-settled Stands Memory h = tt
-settled Stands (UnknownName at) h = h
-settled Stands (WrongMode at) h = h
-settled Stands (NotAssignable at) h = h
-settled Stands (WrongCount at) h = h
-settled Stands (RefOfLocal at) h = h
-settled Stands (LeftOut form at) h = h
-settled Stands (DeclaredTwice at) h = h
-settled Stands (BadStart at) h = h
-settled Stands (UnknownLabel at) h = h
-settled Stands (NoResult at) h = h
-
 not_in : (fs : List CheckFault) (g : CheckFault) → fs ≡ [] → IsIn g fs → ⊥
 not_in fs g e h = subst (λ (x : List CheckFault). IsIn g x) e h
 
 module _ (t : Table) (s : Scope) (ls : List DataLine) (ps : List Part) where
-  pub item_settles : (r : Option CheckFault) (g : CheckFault) → r ≡ with_faults None (brick_faults s ls ps) → r ≡ Some g → Settles (BrickFault t s ls ps) g
-  item_settles r g is some =
+  pub item_counts : (r : Option CheckFault) (g : CheckFault) → r ≡ with_faults None (brick_faults s ls ps) → r ≡ Some g → UnlessMemory g (IsLeast (BrickFault t s ls ps) g)
+  item_counts r g is some =
       let one = one_counts (brick_faults s ls ps) r g is some in
-      settled (BrickFault t s ls ps) g (record { stands = in_items one.stands; least = λ h k. elim k [ in_items i ↦ one.least h i | in_whole none l ↦ absurd (not_in (brick_faults s ls ps) g none one.stands) ] })
+      given g (IsLeast (BrickFault t s ls ps) g) (record { stands = in_items one.stands; least = λ h k. elim k [ in_items i ↦ one.least h i | in_whole none l ↦ absurd (not_in (brick_faults s ls ps) g none one.stands) ] })
 
-  pub whole_settles : (r : Option CheckFault) (g : CheckFault) → r ≡ with_faults None (brick_faults s ls ps) → r ≡ None → Counts (LargeFault t ps) (Some g) → Settles (BrickFault t s ls ps) g
-  whole_settles r g is none one =
+  pub whole_counts : (r : Option CheckFault) (g : CheckFault) → r ≡ with_faults None (brick_faults s ls ps) → r ≡ None → Counts (LargeFault t ps) (Some g) → UnlessMemory g (IsLeast (BrickFault t s ls ps) g)
+  whole_counts r g is none one =
       let clear = none_stands (brick_faults s ls ps) r is none in
-      settled (BrickFault t s ls ps) g (record { stands = in_whole clear one.stands; least = λ h k. elim k [ in_items i ↦ absurd (not_in (brick_faults s ls ps) h clear i) | in_whole c l ↦ one.least h l ] })
+      given g (IsLeast (BrickFault t s ls ps) g) (record { stands = in_whole clear one.stands; least = λ h k. elim k [ in_items i ↦ absurd (not_in (brick_faults s ls ps) h clear i) | in_whole c l ↦ one.least h l ] })
+
+  pub none_in_brick : (r : Option CheckFault) → r ≡ with_faults None (brick_faults s ls ps) → r ≡ None → Counts (LargeFault t ps) None → (g : CheckFault) → BrickFault t s ls ps g → ⊥
+  none_in_brick r is none small g k =
+      let clear = none_stands (brick_faults s ls ps) r is none in
+      elim k [ in_items i ↦ not_in (brick_faults s ls ps) g clear i | in_whole c l ↦ small g l ]
 
   pub are_starts : (r : Option CheckFault) (ss : List DataStart) → r ≡ with_faults None (brick_faults s ls ps) → r ≡ None → Counts (LargeFault t ps) None → ss ≡ brick_starts s ls ps → AreStarts t s ls ps ss
-  are_starts r ss is none small are =
-      let clear = none_stands (brick_faults s ls ps) r is none in
-      record { no_fault = λ g k. elim k [ in_items i ↦ not_in (brick_faults s ls ps) g clear i | in_whole c l ↦ small g l ]; are = are }
+  are_starts r ss is none small are = record { no_fault = none_in_brick r is none small; are = are }

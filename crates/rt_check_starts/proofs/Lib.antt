@@ -1,4 +1,5 @@
 pub mod Records
+pub mod Levels
 pub mod Lists
 pub mod Steps
 pub mod Judged

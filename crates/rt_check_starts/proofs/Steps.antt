@@ -10,7 +10,7 @@ use Rattle.rt_modes.specs.declared.mode.RecordDef.{RecordDef}
 use Rattle.rt_tree_nodes.specs.declared.brick.DataStart.{DataStart}
 use Rattle.rt_check_declared.specs.Written.{Names}
 use Rattle.rt_check_declared.proofs.RecordSteps.{drop_next, more_faults}
-use Rattle.rt_check_starts.specs.Starts.{Written, copies, each_fits, all_fit, fields_fit, in_each, in_all, in_fields, all_unknown, each_made, all_made, fields_made, written}
+use Rattle.rt_check_starts.specs.Starts.{Written, copies, each_fits, starts_field, all_fit, fields_fit, in_each, in_all, in_fields, all_unknown, each_made, all_made, fields_made, written}
 use Rattle.rt_check_starts.proofs.Lists.{copies_seen}
 use Rattle.rt_check_declared.specs.Verdicts.{with_faults}
 
@@ -35,9 +35,9 @@ privates w = w.private
 -- ---- fields of one part
 
 module _ (w : Written) (fs : List Field) (i : ℕ) (f : Field) (h : i < length fs) (e : f ≡ get_or fs i f) where
-  pub field_fits : (a b n t : Bool) → n ≡ w.fits f.mode → b ≡ a && n → a && all_fit w (drop i fs) ≡ t → b && all_fit w (drop (i + 1) fs) ≡ t
+  pub field_fits : (a b n t : Bool) → n ≡ starts_field w f.mode → b ≡ a && n → a && all_fit w (drop i fs) ≡ t → b && all_fit w (drop (i + 1) fs) ≡ t
   field_fits a b n t is both kept =
-      fit_step a b (w.fits f.mode) (all_fit w (drop (i + 1) fs)) t (both ∙ ap (λ (x : Bool). a && x) is) (sym (ap (λ (x : List Field). a && all_fit w x) (drop_next fs i f h e)) ∙ kept)
+      fit_step a b (starts_field w f.mode) (all_fit w (drop (i + 1) fs)) t (both ∙ ap (λ (x : Bool). a && x) is) (sym (ap (λ (x : List Field). a && all_fit w x) (drop_next fs i f h e)) ∙ kept)
 
   pub field_noted : (o p t : Option CheckFault) → p ≡ with_faults o (w.private f.mode) → with_faults o (in_all privates w (drop i fs)) ≡ t → with_faults p (in_all privates w (drop (i + 1) fs)) ≡ t
   field_noted o p t is kept =

@@ -1,5 +1,6 @@
--- The start of an item for which nothing is written: 0. A REF or a PROC, and what holds one, has none.
-use Rattle.std.specs.Prelude.{ℕ, zero, suc, ◌&&◌, Bool, true, false, List, [], ◌∷◌, length, map, Option, Some, None, slice_get, replicate}
+-- The start of an item for which nothing is written: 0. A REF or a PROC, and what holds one, has none. Of a record the fields that are
+-- known are judged; one whose mode can't be known has LABEL.
+use Rattle.std.specs.Prelude.{◌≡◌, ℕ, zero, suc, ◌&&◌, Bool, true, false, List, [], ◌∷◌, length, map, Option, Some, None, slice_get, replicate}
 use Rattle.rt_modes.specs.declared.mode.Field.{Field}
 use Rattle.rt_modes.specs.declared.mode.Mode.{Mode, out-Mode}
 use Rattle.rt_modes.specs.declared.mode.Mode.TheOpen.{Mode-F}
@@ -15,6 +16,7 @@ module _ (known : ℕ → Bool) where
   element_has Mode-F.Byte = true
   element_has Mode-F.Int = true
   element_has Mode-F.Frac = true
+  element_has Mode-F.Label = true
   element_has (Mode-F.Record r) = known r
   element_has _ = false
 
@@ -47,19 +49,35 @@ module _ (made : ℕ → DataStart) where
 
 -- ---- of the records of a module
 
+abbrev pub is_there : Option RecordDef → Bool
+is_there None = false
+is_there (Some d) = true
+
+-- what a list says of a number
+abbrev pub said : Option Bool → Bool
+said None = false
+said (Some b) = b
+
+abbrev pub listed : List Bool → ℕ → Bool
+listed known r = said (slice_get known r)
+
 module _ (records : List RecordDef) where
-  -- of a record that holds records less than so many deep
+  -- By the records that are held less than so many deep; those further in aren't looked at.
   unfoldable pub record_has : ℕ → ℕ → Bool
-  record_has zero r = false
+  record_has zero r = is_there (slice_get records r)
   record_has (suc levels) r = fields_have (record_has levels) (slice_get records r)
 
   unfoldable pub record_made : ℕ → ℕ → DataStart
   record_made zero r = start.Number 0
   record_made (suc levels) r = fields_made (record_made levels) (slice_get records r)
 
-  -- A record that doesn't contain itself holds records less deep than there are records.
+  -- Each record that a record holds stands less deep in it than there are records.
   abbrev pub has_default : Mode → Bool
   has_default m = has (record_has (length records)) (out-Mode m)
+
+  -- a list says it of each record
+  abbrev pub AreDefaults : List Bool → Type 0
+  AreDefaults known = listed known ≡ record_has (length records)
 
   abbrev pub default : Mode → DataStart
   default m = default_by (record_made (length records)) (out-Mode m)

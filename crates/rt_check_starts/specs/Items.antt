@@ -47,10 +47,10 @@ module _ (s : Scope) where
   start_faults at None m = bad_unless (has_default records m) at
   start_faults at (Some x) m = written_faults at (written_in s x) m
 
-  -- where the declaration is unfit, its fault stands, and those of unknown names
+  -- where the mode can't be known, unknown names are judged alone
   abbrev pub faults_by : At → Option Start → Given → List CheckFault
   faults_by at x (given.Mode m) = start_faults at x m
-  faults_by at x (given.Unfit f) = f ∷ unknown_in x
+  faults_by at x given.Unknown = unknown_in x
 
   abbrev pub items_faults : List DataItem → List Part → List CheckFault
   items_faults [] ps = []
@@ -70,7 +70,7 @@ module _ (s : Scope) where
 
   abbrev pub start_by : Option Start → Given → DataStart
   start_by x (given.Mode m) = start_of x m
-  start_by x (given.Unfit f) = start.Number 0
+  start_by x given.Unknown = start.Number 0
 
   abbrev pub items_starts : List DataItem → List Part → List DataStart
   items_starts [] ps = []

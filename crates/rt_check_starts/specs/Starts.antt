@@ -1,5 +1,5 @@
 -- What is written for an item: where it starts an item of a mode, which faults stand in it there, and which start it is.
-use Rattle.std.specs.Prelude.{ℕ, ◌+◌, ◌==◌, ◌&&◌, nat_le, nat_lt, Bool, true, false, not, if◌then◌else◌, List, [], ◌∷◌, ◌++◌, length, map, take, drop, Option, Some, None, slice_get, position, replicate}
+use Rattle.std.specs.Prelude.{ℕ, ◌+◌, ◌==◌, ◌&&◌, ◌||◌, nat_le, nat_lt, Bool, true, false, not, if◌then◌else◌, List, [], ◌∷◌, ◌++◌, length, map, take, drop, Option, Some, None, slice_get, position, replicate}
 use Rattle.rt_grammar.specs.declared.at.At.{At}
 use Rattle.rt_bricks.specs.declared.tree.Parenthesized.{Parenthesized}
 use Rattle.rt_bricks.specs.declared.tree.Selector.{Selector}
@@ -18,6 +18,7 @@ use Rattle.rt_exprs.specs.declared.fault.CheckFault.{CheckFault}
 use Rattle.rt_exprs.specs.declared.scope.Scope.{Scope}
 use Rattle.rt_exprs.specs.Modes.{is_byte}
 use Rattle.rt_exprs.specs.Names.{find}
+use Rattle.rt_exprs.specs.Operands.{is_label}
 use Rattle.rt_check_starts.specs.declared.parts.Wanted.{Wanted as SeenWanted}
 use Rattle.rt_check_starts.specs.declared.parts.Wanted.TheVariants as seen
 use Rattle.rt_check_starts.specs.Places.{Found, found, unfit_faults, place_fits, private_faults, place_made}
@@ -92,9 +93,13 @@ abbrev pub each_fits : List Written → Mode → Bool
 each_fits [] m = true
 each_fits (w ∷ ws) m = w.fits m && each_fits ws m
 
+-- it starts a field; whatever is written may start one whose mode can't be known
+abbrev pub starts_field : Written → Mode → Bool
+starts_field w m = is_label (out-Mode m) || w.fits m
+
 abbrev pub all_fit : Written → List Field → Bool
 all_fit w [] = true
-all_fit w (f ∷ fs) = w.fits f.mode && all_fit w fs
+all_fit w (f ∷ fs) = starts_field w f.mode && all_fit w fs
 
 -- each part starts the next fields, as many as its copies
 abbrev pub fields_fit : List Written → List Field → Bool

@@ -1,9 +1,10 @@
 //! The start of an item for which nothing is written.
 
-ghost use Rattle.std.specs.Prelude.{◌≡◌, map, IfOk, slice_get};
+ghost use Rattle.std.specs.Prelude.{◌≡◌, true, map, replicate, IfOk};
 ghost use Rattle.rt_modes.specs.declared.mode.Mode.{out-Mode};
 ghost use Rattle.rt_modes.specs.declared.mode.Mode.TheOpen.{Mode-F};
 ghost use Rattle.rt_check_starts.specs.Defaults as spec;
+ghost use Rattle.rt_check_starts.specs.Defaults.{AreDefaults, listed};
 
 use rt_modes::{Field, Mode, ModeTable};
 use rt_tree_nodes::DataStart;
@@ -11,57 +12,76 @@ use rt_words::{List, Memory};
 use std::alloc::Global;
 
 /// Whether an item of a mode has a start though nothing is written for it: all have but a REF, a PROC, and what holds one.
-pub fn has_default(modes: &ModeTable, mode: &Mode) -> bool
-    ensures { result ≡ spec.has_default modes.now.records mode.now }
-{
-    has(modes, mode, modes.records.len())
-}
-
-/// The same where records hold records less than so many deep.
-#[cycle(has)]
-#[tactic(auto, unfolding(crate::specs::Defaults::record_has))]
-fn has(modes: &ModeTable, mode: &Mode, levels: usize) -> bool
-    ensures { result ≡ spec.has (spec.record_has modes.now.records levels) (out-Mode mode.now) }
+/// `known` says it of each record.
+pub fn has_default(known: &[bool], mode: &Mode) -> bool
+    ensures { result ≡ spec.has (listed known.now) (out-Mode mode.now) }
 {
     match mode {
-        Mode::Array(_, of) => element_has(modes, of.get(), levels),
-        _ => element_has(modes, mode, levels),
+        Mode::Array(_, of) => element_has(known, of.get()),
+        _ => element_has(known, mode),
     }
 }
 
-#[cycle(has)]
-#[tactic(auto, unfolding(crate::specs::Defaults::record_has))]
-fn element_has(modes: &ModeTable, mode: &Mode, levels: usize) -> bool
-    ensures { result ≡ spec.element_has (spec.record_has modes.now.records levels) (out-Mode mode.now) }
+fn element_has(known: &[bool], mode: &Mode) -> bool
+    ensures { result ≡ spec.element_has (listed known.now) (out-Mode mode.now) }
 {
     match mode {
-        Mode::Byte | Mode::Int | Mode::Frac => true,
-        Mode::Record(number) => record_has(modes, *number, levels),
+        Mode::Byte | Mode::Int | Mode::Frac | Mode::Label => true,
+        Mode::Record(number) => is_listed(known, *number),
         _ => false,
     }
 }
 
-#[cycle(has)]
-#[tactic(auto, unfolding(crate::specs::Defaults::record_has))]
-fn record_has(modes: &ModeTable, number: u16, levels: usize) -> bool
-    ensures { result ≡ spec.record_has modes.now.records levels number }
+fn is_listed(known: &[bool], number: u16) -> bool
+    ensures { result ≡ listed known.now number }
 {
-    if levels == 0 {
-        return false;
-    }
-    match modes.records.get(usize::from(number)) {
+    match known.get(usize::from(number)) {
+        Some(known) => *known,
         None => false,
-        Some(definition) => all_have(modes, definition.fields.as_slice(), levels - 1),
     }
 }
 
-#[cycle(has)]
-#[tactic(auto, unfolding(crate::specs::Defaults::record_has))]
-fn all_have(modes: &ModeTable, fields: &[Field], levels: usize) -> bool
-    ensures { result ≡ spec.all_have (spec.record_has modes.now.records levels) fields.now }
+/// Of each record whether an item of it has a start though nothing is written for it. The time this takes goes by the number
+/// of records and fields and by how deep records hold one another, and not by how often: a record that is too large, or
+/// contains itself, may hold any number of others.
+pub fn records_with_default(alloc: Global, modes: &ModeTable) -> Result<List<bool>, Memory>
+    ensures { IfOk result (AreDefaults modes.now.records) }
+{
+    let mut known = all_records(alloc, modes.records.len())?;
+    for _level in 0..modes.records.len() {
+        let next = next_level(alloc, modes, known.as_slice())?;
+        if next.as_slice() == known.as_slice() {
+            return Ok(known);
+        }
+        known = next;
+    }
+    Ok(known)
+}
+
+/// That each record has one, where none that it holds is looked at.
+fn all_records(alloc: Global, count: usize) -> Result<List<bool>, Memory>
+    ensures { IfOk result (λ known. known ≡ replicate count true) }
+{
+    Ok(List::from_vec(vec![in alloc; true; count]?))
+}
+
+/// The same one level further in.
+fn next_level(alloc: Global, modes: &ModeTable, known: &[bool]) -> Result<List<bool>, Memory>
+    ensures { IfOk result (λ next. next ≡ map (λ d. spec.all_have (listed known.now) d.fields) modes.now.records) }
+{
+    let records = modes.records.as_slice();
+    let mut next = List::new(alloc, records.len())?;
+    for record in records {
+        next.push(all_have(known, record.fields.as_slice()))?;
+    }
+    Ok(next)
+}
+
+fn all_have(known: &[bool], fields: &[Field]) -> bool
+    ensures { result ≡ spec.all_have (listed known.now) fields.now }
 {
     for field in fields {
-        if !has(modes, &field.mode, levels) {
+        if !has_default(known, &field.mode) {
             return false;
         }
     }

@@ -1,15 +1,17 @@
 //! The starts of a data brick, item by item.
 
-ghost use Rattle.std.specs.Prelude.{◌≡◌, [], ◌∷◌, ◌++◌, None, drop, length, IfOk, IfErr, OnOk, MatchOption};
-ghost use Rattle.rt_exprs.specs.Outcomes.{Settles};
+ghost use Rattle.std.specs.Prelude.{◌≡◌, true, [], ◌∷◌, ◌++◌, None, drop, length, IfOk, IfErr, OnOk, MatchOption};
+ghost use Rattle.rt_exprs.specs.declared.fault.CheckFault.{CheckFault};
+ghost use Rattle.rt_exprs.specs.Outcomes.{UnlessMemory, IsLeast};
 ghost use Rattle.rt_sizes.specs.Capped.{AreSizes};
 ghost use Rattle.rt_sizes.specs.Sizes.{Table};
 ghost use Rattle.rt_check_starts.specs.Bricks.{BrickFault, AreStarts};
+ghost use Rattle.rt_check_starts.specs.Defaults.{AreDefaults};
 ghost use Rattle.rt_check_starts.specs.Items as spec;
 ghost use Rattle.rt_check_starts.specs.Starts.{written_in};
 ghost use Rattle.rt_check_declared.specs.Verdicts.{with_faults};
 
-use crate::defaults::{has_default, make_default};
+use crate::defaults::{has_default, make_default, records_with_default};
 use crate::judge::{judge, note_unknown};
 use crate::make::make_start;
 use crate::parts::copies;
@@ -70,40 +72,46 @@ fn judge_known(
     }
 }
 
-/// Notes what is wrong with an item.
+/// Notes what is wrong with an item, where `defaults` says which records have a start though nothing is written.
 #[tactic(auto, unfolding(rt_check_declared::specs::Verdicts::with_faults))]
-fn judge_item(scope: &Scope<'_>, item: &DataItem, given: &Given, faults: &mut Option<CheckFault>)
+fn judge_item(
+    scope: &Scope<'_>,
+    defaults: &[bool],
+    item: &DataItem,
+    given: &Given,
+    faults: &mut Option<CheckFault>,
+)
+    requires { AreDefaults scope.now.modes.now.records defaults.now }
     ensures { faults.new ≡ with_faults faults.old (spec.faults_by scope.now item.now.name.at item.now.start given.now) }
 {
     match given {
         Given::Mode(mode) => match &item.start {
-            None => note_bad(has_default(scope.modes.table(), mode), item.name.at, faults),
+            None => note_bad(has_default(defaults, mode), item.name.at, faults),
             Some(start) => judge_start(scope, item.name.at, start, mode, faults),
         },
-        Given::Unfit(fault) => {
-            note(faults, *fault);
-            match &item.start {
-                None => {}
-                Some(start) => note_unknown(scope, start, faults),
-            }
-        }
+        Given::Unknown => match &item.start {
+            None => {}
+            Some(start) => note_unknown(scope, start, faults),
+        },
     }
 }
 
 #[tactic(auto, unfolding(rt_check_declared::specs::Verdicts::with_faults))]
 fn judge_items(
     scope: &Scope<'_>,
+    defaults: &[bool],
     items: &[DataItem],
     parts: &[Part],
     faults: &mut Option<CheckFault>,
 )
+    requires { AreDefaults scope.now.modes.now.records defaults.now }
     ensures { faults.new ≡ with_faults faults.old (spec.items_faults scope.now items.now parts.now) }
 {
     let mut left = parts;
     for item in items {
         match first(left) {
             Some((part, rest)) => {
-                judge_item(scope, item, &part.has, faults);
+                judge_item(scope, defaults, item, &part.has, faults);
                 left = rest;
             }
             None => return,
@@ -133,15 +141,33 @@ pub fn behind<'a>(parts: &'a [Part], items: &[DataItem]) -> &'a [Part]
 }
 
 /// The fault that counts of those that stand in the items of a data brick; `parts` has what each item is declared with.
+pub fn judge_starts(
+    alloc: Global,
+    scope: &Scope<'_>,
+    lines: &[DataLine],
+    parts: &[Part],
+) -> Result<Option<CheckFault>, Memory>
+    ensures { IfOk result (λ f. f ≡ with_faults None (spec.brick_faults scope.now lines.now parts.now)) }
+{
+    let defaults = records_with_default(alloc, scope.modes.table())?;
+    Ok(judge_lines(scope, defaults.as_slice(), lines, parts))
+}
+
 #[tactic(auto, unfolding(rt_check_declared::specs::Verdicts::with_faults))]
-pub fn judge_starts(scope: &Scope<'_>, lines: &[DataLine], parts: &[Part]) -> Option<CheckFault>
+fn judge_lines(
+    scope: &Scope<'_>,
+    defaults: &[bool],
+    lines: &[DataLine],
+    parts: &[Part],
+) -> Option<CheckFault>
+    requires { AreDefaults scope.now.modes.now.records defaults.now }
     ensures { result ≡ with_faults None (spec.brick_faults scope.now lines.now parts.now) }
 {
     let mut faults = None;
     let mut left = parts;
     for line in lines {
         let items = line.items.as_slice();
-        judge_items(scope, items, left, &mut faults);
+        judge_items(scope, defaults, items, left, &mut faults);
         left = behind(left, items);
     }
     faults
@@ -160,7 +186,7 @@ fn make_item(
             None => make_default(alloc, scope.modes.table(), mode),
             Some(start) => make_start(alloc, scope, start, mode),
         },
-        Given::Unfit(_) => Ok(DataStart::Number(0)),
+        Given::Unknown => Ok(DataStart::Number(0)),
     }
 }
 
@@ -205,9 +231,27 @@ fn make_starts(
     Ok(made)
 }
 
+/// The same where they are to be made; else none are.
+fn starts_of(
+    alloc: Global,
+    scope: &Scope<'_>,
+    lines: &[DataLine],
+    parts: &[Part],
+    is_fit: bool,
+) -> Result<List<DataStart>, Memory>
+    ensures { is_fit ≡ true → IfOk result (λ ss. ss ≡ spec.brick_starts scope.now lines.now parts.now) }
+{
+    if is_fit {
+        make_starts(alloc, scope, lines, parts)
+    } else {
+        List::new(alloc, 0)
+    }
+}
+
 /// The starts of a data brick: `parts` has what each item is declared with, in the order of `lines`, and `sizes` the sizes of
-/// the module's records. No start is made before all are known to fit and the brick is known to be within 57,344 bytes, so
-/// no more is made than that many elements.
+/// the module's records. `is_fit` says that no fault stands outside of what bricks hold. Where one does, a record may contain
+/// itself, or be too large: the brick is judged, and no start is made. Else all starts are known to fit and the brick is
+/// known to be within 57,344 bytes before one is made, so that no more are made than that many elements.
 ///
 /// # Errors
 ///
@@ -218,18 +262,21 @@ pub fn read_starts(
     lines: &[DataLine],
     parts: &[Part],
     sizes: &[Option<Size>],
+    is_fit: bool,
 ) -> Result<List<DataStart>, CheckFault>
     // What is answered are the starts, and no fault stands.
-    ensures starts { (t : Table) → AreSizes t sizes.now → IfOk result (AreStarts t scope.now lines.now parts.now) }
+    ensures starts { (t : Table) → AreSizes t sizes.now → is_fit ≡ true → IfOk result (AreStarts t scope.now lines.now parts.now) }
+    // Nor does one stand where no starts are made.
+    ensures fit { (t : Table) → AreSizes t sizes.now → IfOk result (λ _. (g : CheckFault) → BrickFault t scope.now lines.now parts.now g → ⊥) }
     // A fault stands, and counts of all that stand.
-    ensures fault { (t : Table) → AreSizes t sizes.now → IfErr result (Settles (BrickFault t scope.now lines.now parts.now)) }
+    ensures fault { (t : Table) → AreSizes t sizes.now → IfErr result (λ g. UnlessMemory g (IsLeast (BrickFault t scope.now lines.now parts.now) g)) }
 {
-    match judge_starts(scope, lines, parts) {
+    match judge_starts(alloc, scope, lines, parts)? {
         Some(fault) => Err(fault),
         None => match large_item(alloc, parts, sizes)? {
             Some(fault) => Err(fault),
             None => {
-                let made = make_starts(alloc, scope, lines, parts)?;
+                let made = starts_of(alloc, scope, lines, parts, is_fit)?;
                 Ok(made)
             }
         },

@@ -1,8 +1,9 @@
 //! Where what is written starts an item of a mode.
 
-ghost use Rattle.std.specs.Prelude.{◌≡◌, map, take, drop};
+ghost use Rattle.std.specs.Prelude.{◌≡◌, ◌||◌, map, take, drop};
 ghost use Rattle.rt_modes.specs.declared.mode.Mode.{out-Mode};
 ghost use Rattle.rt_check_starts.specs.Starts as spec;
+ghost use Rattle.rt_exprs.specs.Operands.{is_label};
 ghost use Rattle.rt_check_starts.specs.Starts.{written_in};
 ghost use Rattle.rt_check_declared.specs.Verdicts.{with_faults};
 
@@ -96,11 +97,21 @@ fn judge_fields(
         let (these, rest) = next_fields(part, left);
         for field in these {
             let next = judge(scope, part, &field.mode, faults);
-            fit &= next;
+            fit &= starts_field(&field.mode, next);
         }
         left = rest;
     }
     fit
+}
+
+/// Whether what fits, or doesn't, starts a field of a mode; all do where the mode can't be known, for which LABEL stands.
+fn starts_field(mode: &Mode, fits: bool) -> bool
+    ensures { result ≡ is_label (out-Mode mode.now) || fits }
+{
+    match mode {
+        Mode::Label => true,
+        _ => fits,
+    }
 }
 
 pub fn is_negative(sign: Option<Sign>) -> bool

@@ -25,6 +25,8 @@ enum Step<'a> {
     Leads(u16, &'a Mode),
     /// To a field that the record hasn't.
     Lost(CheckFault),
+    /// To a field whose mode can't be known.
+    Hidden,
     Nowhere,
 }
 
@@ -33,14 +35,17 @@ enum Step<'a> {
 enum Reached<'a> {
     Place(&'a Mode),
     Unknown(CheckFault),
+    Hidden,
     NoPlace,
 }
 
 /// What a name with selectors is in a start.
 #[derive(Clone, Copy)]
 pub enum Found<'a> {
-    /// A name that is unknown or whose declaration is unfit, by the fault that stands there.
+    /// A name that is unknown, or that may not be used, by the fault that stands there.
     Unfit(CheckFault),
+    /// What can't be known: it may start any item.
+    Hidden,
     /// A procedure brick, by its number, and its mode.
     Procedure(u16, &'a Mode),
     /// A place of an item that all tasks share: the numbers of brick and item, the item's mode and the place's.
@@ -65,6 +70,7 @@ fn field<'a>(modes: &'a IndexedRecords, name: &Ident, mode: &'a Mode) -> Step<'a
 {
     match mode {
         Mode::Record(number) => match field_named(modes, *number, name.name.as_slice()) {
+            Some((_, Mode::Label)) => Step::Hidden,
             Some((at, inner)) => Step::Leads(at, inner),
             None => Step::Lost(CheckFault::UnknownName(name.at)),
         },
@@ -93,6 +99,7 @@ fn along<'a>(modes: &'a IndexedRecords, selectors: &[Selector], mode: &'a Mode) 
         match selected(modes, selector, inner) {
             Step::Leads(_, next) => inner = next,
             Step::Lost(fault) => return Reached::Unknown(fault),
+            Step::Hidden => return Reached::Hidden,
             Step::Nowhere => return Reached::NoPlace,
         }
     }
@@ -141,7 +148,14 @@ fn place_of<'a>(
     ensures { found_of result ≡ spec.found modes.now.records at selectors.now (Some meaning.now) }
 {
     match meaning {
-        Meaning::Unfit(fault) => Found::Unfit(*fault),
+        Meaning::Unknown => Found::Hidden,
+        Meaning::UnknownProc => {
+            if selectors.is_empty() {
+                Found::Hidden
+            } else {
+                Found::Other
+            }
+        }
         Meaning::Proc(brick, mode) => {
             if selectors.is_empty() {
                 Found::Procedure(*brick, mode)
@@ -152,6 +166,7 @@ fn place_of<'a>(
         Meaning::Item(brick, item, mode) => match along(modes, selectors, mode) {
             Reached::Place(inner) => Found::Shared(*brick, *item, mode, inner),
             Reached::Unknown(fault) => Found::Unfit(fault),
+            Reached::Hidden => Found::Hidden,
             Reached::NoPlace => Found::Other,
         },
         Meaning::SvcItem(_, _, mode) => private(along(modes, selectors, mode)),
@@ -172,6 +187,7 @@ fn private<'a>(reached: Reached<'a>) -> Found<'a>
     match reached {
         Reached::Place(mode) => Found::Private(mode),
         Reached::Unknown(fault) => Found::Unfit(fault),
+        Reached::Hidden => Found::Hidden,
         Reached::NoPlace => Found::Other,
     }
 }
@@ -197,11 +213,12 @@ pub fn place_fits(found: Found<'_>, wanted: &Mode) -> bool
     match found {
         Found::Procedure(_, mode) => same_mode(wanted, mode),
         Found::Shared(_, _, _, place) => is_referred(place, wanted),
+        Found::Hidden => true,
         _ => false,
     }
 }
 
-/// Notes a name in a start that is unknown, or whose declaration is unfit.
+/// Notes a name in a start that is unknown, or that may not be used.
 #[tactic(auto, unfolding(rt_check_declared::specs::Verdicts::with_faults))]
 pub fn note_unfit(found: Found<'_>, faults: &mut Option<CheckFault>)
     ensures { faults.new ≡ with_faults faults.old (spec.unfit_faults (found_of found.entry)) }

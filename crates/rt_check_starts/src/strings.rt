@@ -155,7 +155,7 @@ fn add_start_texts<'a>(
     match start {
         None => Ok(()),
         Some(start) => match given {
-            Given::Unfit(_) => Ok(()),
+            Given::Unknown => Ok(()),
             Given::Mode(mode) => {
                 let mut used = List::new(alloc, 0)?;
                 add_used(&mut used, modes, start, mode)?;

@@ -12,7 +12,7 @@ use Rattle.rt_modes.specs.declared.mode.Field.{Field}
 use Rattle.rt_modes.specs.declared.mode.Mode.{Mode}
 use Rattle.rt_modes.specs.declared.mode.RecordDef.{RecordDef}
 use Rattle.rt_exprs.specs.Indexed.{number_at, FindsFields, FindsAllFields, NotesFirst}
-use Rattle.rt_exprs.specs.Operands.{or_else, field_from, field_in, field_of, as_word}
+use Rattle.rt_exprs.specs.Operands.{or_else, field_from, field_in, first_field, as_word}
 
 -- the number, from k, of the first field of a name
 abbrev pub number_from : ℕ → List Field → List ℕ → Option ℕ
@@ -148,9 +148,9 @@ the_field o r name k is e =
 
 module _ {A S : Type 0} (rs : List RecordDef) (ms : List (IndexMap (Vec ℕ A) ℕ S)) (all : FindsAllFields rs ms) (number : ℕ) (name : List ℕ) where
   -- where the map has nothing there is no field
-  pub finds_none : found_in (slice_get ms number) name ≡ None → None ≡ field_of rs number name
+  pub finds_none : found_in (slice_get ms number) name ≡ None → None ≡ first_field rs number name
   finds_none e = sym (no_field_in (slice_get rs number) name (sym (finds rs ms all number name) ∙ e))
 
   -- where it has a number the field is the one of that number
-  pub finds_some : (r : RecordDef) (k : ℕ) → slice_get rs number ≡ Some r → found_in (slice_get ms number) name ≡ Some k → as_word (numbered r.fields k k) ≡ field_of rs number name
+  pub finds_some : (r : RecordDef) (k : ℕ) → slice_get rs number ≡ Some r → found_in (slice_get ms number) name ≡ Some k → as_word (numbered r.fields k k) ≡ first_field rs number name
   finds_some r k is e = sym (the_field (slice_get rs number) r name k is (sym (finds rs ms all number name) ∙ e))

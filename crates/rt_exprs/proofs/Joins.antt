@@ -1,10 +1,15 @@
 -- Outcomes that are joined.
-use Rattle.std.proofs.Common.{◌≡◌, ℕ, ◌==◌, ◌&&◌, ◌||◌, Bool, true, false, List, Result, Ok, Err, ◌⊎◌, inl, inr, arith, lit<, refl, sym, ap, ◌∙◌, subst}
+use Rattle.std.proofs.Common.{◌≡◌, ℕ, ◌==◌, ◌&&◌, ◌||◌, Bool, true, false, not, List, Option, None, Result, Ok, Err, ◌⊎◌, inl, inr, arith, lit<, refl, sym, ap, ◌∙◌, subst}
 use Rattle.std.proofs.lemmas.Bool.Decides.{nat_tests}
 use Rattle.std.specs.Prelude.{◌<◌, nat_lt, nat_le, if◌then◌else◌}
 use Rattle.rt_exprs.specs.declared.fault.CheckFault.{CheckFault}
-use Rattle.rt_exprs.specs.declared.fault.CheckFault.TheVariants.{Memory, UnknownName, WrongMode, NotAssignable, WrongCount, RefOfLocal, LeftOut, DeclaredTwice, BadStart, UnknownLabel, NoResult}
-use Rattle.rt_exprs.specs.Outcomes.{Outcome, Gives, both, after, earlier, sooner, is_before, item_of, number_of, UnlessMemory}
+use Rattle.rt_exprs.specs.declared.fault.CheckFault.TheVariants.{Memory, UnknownName, WrongMode, NotAssignable, WrongCount, RefOfLocal, LeftOut, DeclaredTwice, BadStart, UnknownLabel, NoResult, Unknown}
+use Rattle.rt_exprs.specs.Outcomes.{Outcome, Gives, both, after, earlier, sooner, is_before, is_unknown, item_of, number_of, UnlessMemory}
+use Rattle.rt_grammar.specs.declared.at.At.{At}
+use Rattle.rt_syntax_exprs.specs.declared.tree.Op2.{Op2}
+use Rattle.rt_syntax_exprs.specs.declared.tree.Rel.{Rel}
+use Rattle.rt_exprs.specs.Operands.{Judged, by_itself}
+use Rattle.rt_exprs.specs.Judging.{fault_of as fault_by, dyadic, of_int, right_alone, compare, compares}
 
 pub given : (f : CheckFault) (P : Type 0) → P → UnlessMemory f P
 given Memory P h = tt
@@ -18,6 +23,7 @@ given (DeclaredTwice at) P h = h
 given (BadStart at) P h = h
 given (UnknownLabel at) P h = h
 given (NoResult at) P h = h
+given Unknown P h = h
 
 pub told : (f : CheckFault) (P : Type 0) → UnlessMemory f P → (f ≡ Memory) ⊎ P
 told Memory P h = inl refl
@@ -31,13 +37,16 @@ told (DeclaredTwice at) P h = inr h
 told (BadStart at) P h = inr h
 told (UnknownLabel at) P h = inr h
 told (NoResult at) P h = inr h
+told Unknown P h = inr h
 
 -- want of memory goes before every fault
-before_memory : (n k : ℕ) → 0 < k → (nat_lt n 0 || (n == 0 && nat_le k 0)) ≡ false
-before_memory n k h = grind (arith, nat_tests)
+before_memory : (u : Bool) (n k : ℕ) → 0 < k → (not u && (nat_lt n 0 || (n == 0 && nat_le k 0))) ≡ false
+before_memory true n k h = refl
+before_memory false n k h = grind (arith, nat_tests)
 
-memory_before : (n k : ℕ) → (nat_lt 0 n || (0 == n && nat_le 0 k)) ≡ true
-memory_before n k = grind (arith, nat_tests)
+memory_before : (u : Bool) (n k : ℕ) → (u || (nat_lt 0 n || (0 == n && nat_le 0 k))) ≡ true
+memory_before true n k = refl
+memory_before false n k = grind (arith, nat_tests)
 
 choose_no : {A : Type 0} (b : Bool) (x y : A) → b ≡ false → (if b then x else y) ≡ y
 choose_no b x y e = rw e refl
@@ -45,29 +54,33 @@ choose_no b x y e = rw e refl
 choose_yes : {A : Type 0} (b : Bool) (x y : A) → b ≡ true → (if b then x else y) ≡ x
 choose_yes b x y e = rw e refl
 
-counts : (f : CheckFault) → (f ≡ Memory) ⊎ (0 < number_of f)
-counts Memory = inl refl
-counts (UnknownName at) = inr (lit< tt)
-counts (WrongMode at) = inr (lit< tt)
-counts (NotAssignable at) = inr (lit< tt)
-counts (WrongCount at) = inr (lit< tt)
-counts (RefOfLocal at) = inr (lit< tt)
-counts (LeftOut form at) = inr (lit< tt)
-counts (DeclaredTwice at) = inr (lit< tt)
-counts (BadStart at) = inr (lit< tt)
-counts (UnknownLabel at) = inr (lit< tt)
-counts (NoResult at) = inr (lit< tt)
+later : (f : CheckFault) → 0 < number_of f → is_before f Memory ≡ false
+later f h = before_memory (is_unknown f) (item_of f) (number_of f) h
 
-sooner_right : (f : CheckFault) → sooner f Memory ≡ Memory
+counts : (f : CheckFault) → (f ≡ Memory) ⊎ (is_before f Memory ≡ false)
+counts Memory = inl refl
+counts (UnknownName at) = inr (later (UnknownName at) (lit< tt))
+counts (WrongMode at) = inr (later (WrongMode at) (lit< tt))
+counts (NotAssignable at) = inr (later (NotAssignable at) (lit< tt))
+counts (WrongCount at) = inr (later (WrongCount at) (lit< tt))
+counts (RefOfLocal at) = inr (later (RefOfLocal at) (lit< tt))
+counts (LeftOut form at) = inr (later (LeftOut form at) (lit< tt))
+counts (DeclaredTwice at) = inr (later (DeclaredTwice at) (lit< tt))
+counts (BadStart at) = inr (later (BadStart at) (lit< tt))
+counts (UnknownLabel at) = inr (later (UnknownLabel at) (lit< tt))
+counts (NoResult at) = inr (later (NoResult at) (lit< tt))
+counts Unknown = inr refl
+
+pub sooner_right : (f : CheckFault) → sooner f Memory ≡ Memory
 sooner_right f = elim (counts f) [
   | inl e ↦ rw e refl
-  | inr h ↦ choose_no (is_before f Memory) f Memory (before_memory (item_of f) (number_of f) h)
+  | inr h ↦ choose_no (is_before f Memory) f Memory h
 ]
 
-sooner_left : (f : CheckFault) → sooner Memory f ≡ Memory
-sooner_left f = choose_yes (is_before Memory f) Memory f (memory_before (item_of f) (number_of f))
+pub sooner_left : (f : CheckFault) → sooner Memory f ≡ Memory
+sooner_left f = choose_yes (is_before Memory f) Memory f (memory_before (is_unknown f) (item_of f) (number_of f))
 
-free : (f : CheckFault) (P : Type 0) → f ≡ Memory → UnlessMemory f P
+pub free : (f : CheckFault) (P : Type 0) → f ≡ Memory → UnlessMemory f P
 free f P e = subst (λ (g : CheckFault). UnlessMemory g P) (sym e) tt
 
 pub earlier_left : {A : Type 0} (y : Outcome A) → earlier Memory y ≡ Memory
@@ -116,3 +129,46 @@ pub after_err : {X : Type 0} (f r : CheckFault) (so_far : Result (List X) CheckF
     → Gives (λ y. y) so_far xs → Gives (λ y. y) next x → UnlessMemory r (after xs x ≡ Err r)
 after_err f r so_far next e i xs x h k =
     subst (λ (g : CheckFault). UnlessMemory g (after xs x ≡ Err g)) (sym i) (after_gives (Err f) next xs x (subst (λ (y : Result _ CheckFault). Gives (λ z. z) y xs) e h) k)
+
+-- the fault that counts of two, each of which may be want of memory
+pub sooner_told : (f g x y : CheckFault) → UnlessMemory f (f ≡ x) → UnlessMemory g (g ≡ y) → UnlessMemory (sooner f g) (sooner f g ≡ sooner x y)
+sooner_told f g x y h k = elim (told f (f ≡ x) h) [
+  | inl m ↦ free (sooner f g) (sooner f g ≡ sooner x y) (ap (λ (q : CheckFault). sooner q g) m ∙ sooner_left g)
+  | inr e ↦ elim (told g (g ≡ y) k) [
+    | inl m ↦ free (sooner f g) (sooner f g ≡ sooner x y) (ap (sooner f) m ∙ sooner_right f)
+    | inr d ↦ given (sooner f g) (sooner f g ≡ sooner x y) (rw (e, d) refl)
+  ]
+]
+
+-- the fault of an answer
+pub fault_given : {X Y : Type 0} (view : X → Y) (f : CheckFault) (t : Outcome Y) → Gives view (Err f) t → UnlessMemory f (f ≡ fault_by t)
+fault_given view f t h = elim (told f (t ≡ Err f) h) [
+  | inl m ↦ free f (f ≡ fault_by t) m
+  | inr e ↦ given f (f ≡ fault_by t) (rw e refl)
+]
+
+-- a left operand that isn't known, and a right one that is judged by itself
+pub dyadic_err : (at : At) (op : Op2) (f g : CheckFault) (l r : Outcome Judged) → of_int op ≡ false → UnlessMemory f (l ≡ Err f) → UnlessMemory g (g ≡ right_alone op r) → UnlessMemory (sooner f g) (dyadic at op l r ≡ Err (sooner f g))
+dyadic_err at op f g l r i h k = elim (told f (l ≡ Err f) h) [
+  | inl m ↦ free (sooner f g) (dyadic at op l r ≡ Err (sooner f g)) (ap (λ (q : CheckFault). sooner q g) m ∙ sooner_left g)
+  | inr e ↦ elim (told g (g ≡ right_alone op r) k) [
+    | inl m ↦ free (sooner f g) (dyadic at op l r ≡ Err (sooner f g)) (ap (sooner f) m ∙ sooner_right f)
+    | inr d ↦ given (sooner f g) (dyadic at op l r ≡ Err (sooner f g)) (rw (i, e, d) refl)
+  ]
+]
+
+-- a left side that isn't known, and a right one that is judged by itself
+pub compare_err : (r : Rel) (f g : CheckFault) (l b : Outcome Judged) → UnlessMemory f (l ≡ Err f) → UnlessMemory g (g ≡ by_itself b) → UnlessMemory (sooner f g) (compare r l b ≡ Err (sooner f g))
+compare_err r f g l b h k = elim (told f (l ≡ Err f) h) [
+  | inl m ↦ free (sooner f g) (compare r l b ≡ Err (sooner f g)) (ap (λ (q : CheckFault). sooner q g) m ∙ sooner_left g)
+  | inr e ↦ elim (told g (g ≡ by_itself b) k) [
+    | inl m ↦ free (sooner f g) (compare r l b ≡ Err (sooner f g)) (ap (sooner f) m ∙ sooner_right f)
+    | inr d ↦ given (sooner f g) (compare r l b ≡ Err (sooner f g)) (rw (e, d) refl)
+  ]
+]
+
+pub unwanted_err : (r : Rel) (j : Judged) (g : CheckFault) (l b : Outcome Judged) → l ≡ Ok j → compares r j.found.is ≡ None → UnlessMemory g (g ≡ by_itself b) → UnlessMemory (sooner (WrongMode j.found.at) g) (compare r l b ≡ Err (sooner (WrongMode j.found.at) g))
+unwanted_err r j g l b e n k = elim (told g (g ≡ by_itself b) k) [
+  | inl m ↦ free (sooner (WrongMode j.found.at) g) (compare r l b ≡ Err (sooner (WrongMode j.found.at) g)) (ap (sooner (WrongMode j.found.at)) m ∙ sooner_right (WrongMode j.found.at))
+  | inr d ↦ given (sooner (WrongMode j.found.at) g) (compare r l b ≡ Err (sooner (WrongMode j.found.at) g)) (rw (e, n, d) refl)
+]

@@ -1,8 +1,11 @@
 mod Trees
-mod Complete
-pub mod Sound
-mod Judged
+pub mod Complete
+pub mod Known
+pub mod Judged
 pub mod Others
+mod Real
+pub mod Told
+pub mod Sound
 mod Levels
 pub mod Same
 pub mod Joins

@@ -1,5 +1,5 @@
 -- What each form of expression, chain and condition is, by its parts; and the first fault.
-use Rattle.std.specs.Prelude.{ℕ, ◌==◌, Bool, true, false, if◌then◌else◌, List, [], ◌∷◌, length, Option, Some, None, Ok, Err}
+use Rattle.std.specs.Prelude.{ℕ, ◌==◌, Bool, true, false, if◌then◌else◌, List, [], ◌∷◌, length, ◌-◌, slice_get, Option, Some, None, Ok, Err}
 use Rattle.std.specs.Option.{option_copied}
 use Rattle.rt_grammar.specs.declared.at.At.{At}
 use Rattle.rt_grammar.specs.declared.at.Ident.{Ident}
@@ -9,11 +9,11 @@ use Rattle.rt_syntax_exprs.specs.declared.tree.Op2.{Op2}
 use Rattle.rt_syntax_exprs.specs.declared.tree.Op2.TheVariants as op2
 use Rattle.rt_syntax_exprs.specs.declared.tree.Rel.{Rel}
 use Rattle.rt_syntax_exprs.specs.declared.tree.Rel.TheVariants as rel
-use Rattle.rt_syntax_exprs.specs.declared.tree.Expr.{Expr}
+use Rattle.rt_syntax_exprs.specs.declared.tree.Expr.{Expr, out-Expr}
 use Rattle.rt_syntax_exprs.specs.declared.tree.Expr.TheFolds.{fold-Expr, fold-Link, fold-Chain}
 use Rattle.rt_syntax_exprs.specs.declared.tree.Expr.TheOpen.{Expr-F, Link-F, Chain-F}
 use Rattle.rt_syntax_exprs.specs.declared.tree.Chain.{Chain, out-Chain}
-use Rattle.rt_syntax_exprs.specs.declared.tree.Link.{Link}
+use Rattle.rt_syntax_exprs.specs.declared.tree.Link.{Link, out-Link}
 use Rattle.rt_syntax_exprs.specs.declared.tree.Cond.{Cond}
 use Rattle.rt_syntax_exprs.specs.declared.tree.Cond.TheFolds.{fold-Cond}
 use Rattle.rt_syntax_exprs.specs.declared.tree.Cond.TheOpen.{Cond-F}
@@ -35,6 +35,7 @@ use Rattle.rt_tree_nodes.specs.declared.value.Place.{Place}
 use Rattle.rt_tree_nodes.specs.declared.value.Place.TheVariants as places
 use Rattle.rt_tree_nodes.specs.declared.value.Value.{Value}
 use Rattle.rt_tree_nodes.specs.declared.value.Value.TheVariants as values
+use Rattle.rt_exprs.specs.declared.fault.CheckFault.{CheckFault}
 use Rattle.rt_exprs.specs.declared.fault.CheckFault.TheVariants as fault
 use Rattle.rt_exprs.specs.declared.links.Reach.{Reach as Reached}
 use Rattle.rt_exprs.specs.declared.links.Reach.TheVariants as reaches
@@ -46,14 +47,18 @@ use Rattle.rt_exprs.specs.declared.scope.Meaning.{Meaning}
 use Rattle.rt_exprs.specs.declared.scope.Meaning.TheVariants as meaning
 use Rattle.rt_exprs.specs.declared.scope.Scope.{Scope}
 use Rattle.rt_exprs.specs.Modes.{Want, basic, ref, row, want, ref_of, record_of, through, array_at, base_of}
-use Rattle.rt_exprs.specs.Outcomes.{Outcome, ◌>>=◌, both, after, or_fault}
+use Rattle.rt_exprs.specs.Outcomes.{Outcome, ◌>>=◌, unknown, both, after, or_fault, or_other, sooner}
 use Rattle.rt_exprs.specs.Names.{find, text_at}
-use Rattle.rt_exprs.specs.Operands.{Is, number, text, brick, place, loop, result, computed, done, Found, named, field_of, suits, fits}
+use Rattle.rt_exprs.specs.Operands.{Is, number, text, brick, place, loop, result, computed, done, Found, Judged, named, first_field, is_label, suits_as, if_known, fits, by_itself}
 
 -- ---- links
 
 abbrev pub found : At → Is → Found
 found at is = record { at = at; is = is }
+
+-- what is found, known or not
+abbrev pub seen_as : Bool → At → Is → Judged
+seen_as known at is = record { found = found at is; known = known }
 
 abbrev pub record_behind : Option Mode → Option ℕ
 record_behind None = None
@@ -74,17 +79,21 @@ record_in (place p m st) = place_record p st (record_of (out-Mode m)) (record_be
 record_in (result v m) = shared_record (places.Through v) (record_behind (ref_of (out-Mode m)))
 record_in _ = None
 
-abbrev pub field_at : At → Found → Place → Standing → Option (ℕ × Mode) → Outcome Found
-field_at at f p st None = Err (fault.UnknownName at)
-field_at at f p st (Some x) = Ok (found f.at (place (places.Field p x.0) x.1 st))
+abbrev pub field_with : Bool → Judged → Place → Standing → ℕ → Mode → Outcome Judged
+field_with true j p st k m = unknown
+field_with false j p st k m = Ok (seen_as j.known j.found.at (place (places.Field p k) m st))
+
+abbrev pub field_at : At → Judged → Place → Standing → Option (ℕ × Mode) → Outcome Judged
+field_at at j p st None = Err (fault.UnknownName at)
+field_at at j p st (Some x) = field_with (is_label (out-Mode x.1)) j p st x.0 x.1
 
 -- . name
-abbrev pub dot_by : List RecordDef → Ident → At → Found → Option (Place × ℕ × Standing) → Outcome Found
-dot_by s name at f None = Err (fault.WrongMode at)
-dot_by records name at f (Some x) = field_at name.at f x.0 x.2 (field_of records x.1 name.name)
+abbrev pub dot_by : List RecordDef → Ident → At → Judged → Option (Place × ℕ × Standing) → Outcome Judged
+dot_by s name at j None = Err (fault.WrongMode at)
+dot_by records name at j (Some x) = field_at name.at j x.0 x.2 (first_field records x.1 name.name)
 
-abbrev pub dot : List RecordDef → Ident → At → Found → Outcome Found
-dot records name at f = dot_by records name at f (record_in f.is)
+abbrev pub dot : List RecordDef → Ident → At → Judged → Outcome Judged
+dot records name at j = dot_by records name at j (record_in j.found.is)
 
 -- What parentheses do: they select an element of an array, whose place and elements' mode these are; they call; or they
 -- don't fit.
@@ -119,12 +128,12 @@ reach (result v m) = result_reach (out-Mode m) v
 reach _ = neither
 
 -- Arguments, each wanted of the mode of its parameter; one that has none isn't judged.
-abbrev pub arguments_from : Outcome (List Value) → List (Outcome Found) → List Mode → Outcome (List Value)
+abbrev pub arguments_from : Outcome (List Value) → List (Outcome Judged) → List Mode → Outcome (List Value)
 arguments_from so_far [] ms = so_far
 arguments_from so_far (t ∷ ts) [] = so_far
 arguments_from so_far (t ∷ ts) (m ∷ ms) = arguments_from (after so_far (fits t (want m))) ts ms
 
-abbrev pub arguments : List (Outcome Found) → List Mode → Outcome (List Value)
+abbrev pub arguments : List (Outcome Judged) → List Mode → Outcome (List Value)
 arguments = arguments_from (Ok [])
 
 abbrev pub called : Callee → Option Mode → List Value → Is
@@ -132,46 +141,63 @@ called c None xs = done (values.Call c xs)
 called c (Some m) xs = result (values.Call c xs) m
 
 -- the arguments of a call, whose name or VAL stands at an item: as many as there are parameters
-abbrev pub counted : At → List (Outcome Found) → List Mode → Outcome (List Value)
-counted at ts ps = do
-  xs ← arguments ts ps
-  if length ts == length ps then Ok xs else Err (fault.WrongCount at)
+abbrev pub if_counted : At → Bool → Outcome (List Value) → Outcome (List Value)
+if_counted at true t = t
+if_counted at false (Ok xs) = Err (fault.WrongCount at)
+if_counted at false (Err fault.Unknown) = Err (fault.WrongCount at)
+if_counted at false (Err g) = Err g
 
-abbrev pub answered : At → Callee → Option Mode → Outcome (List Value) → Outcome Found
-answered at c r t = t >>= λ xs. Ok (found at (called c r xs))
+abbrev pub counted : At → List (Outcome Judged) → List Mode → Outcome (List Value)
+counted at ts ps = if_counted at (length ts == length ps) (arguments ts ps)
 
-abbrev pub call : At → Callee → List Mode → Option Mode → List (Outcome Found) → Outcome Found
-call at c ps r ts = answered at c r (counted at ts ps)
+abbrev pub answered : At → Callee → Option Mode → Bool → Outcome (List Value) → Outcome Judged
+answered at c r known t = or_other [] known t >>= λ x. Ok (seen_as x.1 at (called c r x.0))
+
+abbrev pub call : At → Callee → List Mode → Option Mode → Bool → List (Outcome Judged) → Outcome Judged
+call at c ps r known ts = answered at c r known (counted at ts ps)
 
 -- one subscript, between parentheses of which the first stands at an item
-abbrev pub subscript : At → List (Outcome Found) → Outcome Value
+abbrev pub subscript : At → List (Outcome Judged) → Outcome Value
 subscript mark (t ∷ []) = fits t (basic base.Int)
 subscript mark _ = Err (fault.WrongMode mark)
 
-abbrev pub selected : At → Place → Mode → Standing → Outcome Value → Outcome Found
-selected at p m st t = t >>= λ i. Ok (found at (place (places.Element p i) m st))
+abbrev pub selected : At → Place → Mode → Standing → Bool → Outcome Value → Outcome Judged
+selected at p m st known t = or_other (values.Number 0) known t >>= λ x. Ok (seen_as x.1 at (place (places.Element p x.0) m st))
 
-abbrev pub element : At → At → Place → Mode → Standing → List (Outcome Found) → Outcome Found
-element mark at p m st ts = selected at p m st (subscript mark ts)
+abbrev pub element : At → At → Place → Mode → Standing → Bool → List (Outcome Judged) → Outcome Judged
+element mark at p m st known ts = selected at p m st known (subscript mark ts)
 
 -- ( [expr {, expr}] )
-abbrev pub apply_by : At → List (Outcome Found) → At → Reach → Outcome Found
-apply_by mark ts at (rows p m st) = element mark at p m st ts
-apply_by mark ts at (calls c ps r) = call at c ps r ts
-apply_by mark ts at neither = Err (fault.WrongMode mark)
+abbrev pub apply_by : At → List (Outcome Judged) → At → Bool → Reach → Outcome Judged
+apply_by mark ts at known (rows p m st) = element mark at p m st known ts
+apply_by mark ts at known (calls c ps r) = call at c ps r known ts
+apply_by mark ts at known neither = Err (fault.WrongMode mark)
 
-abbrev pub apply : At → List (Outcome Found) → Found → Outcome Found
-apply mark ts f = apply_by mark ts f.at (reach f.is)
+abbrev pub apply : At → List (Outcome Judged) → Judged → Outcome Judged
+apply mark ts j = apply_by mark ts j.found.at j.known (reach j.found.is)
+
+-- the fault that counts of a fault and of expressions that are judged by themselves
+abbrev pub all_alone : CheckFault → List (Outcome Judged) → CheckFault
+all_alone g [] = g
+all_alone g (t ∷ ts) = all_alone (sooner g (by_itself t)) ts
+
+-- Behind what isn't known, and what is unfit, the expressions between parentheses are judged by themselves.
+abbrev pub dot_after : List RecordDef → Ident → At → Outcome Judged → Outcome Judged
+dot_after records name at t = t >>= dot records name at
+
+abbrev pub apply_after : At → List (Outcome Judged) → Outcome Judged → Outcome Judged
+apply_after mark ts (Ok j) = apply mark ts j
+apply_after mark ts (Err g) = Err (all_alone g ts)
 
 -- links, one after the other
-abbrev pub walk : List (Found → Outcome Found) → Found → Outcome Found
-walk [] f = Ok f
-walk (l ∷ ls) f = l f >>= walk ls
+abbrev pub walk : List (Outcome Judged → Outcome Judged) → Outcome Judged → Outcome Judged
+walk [] t = t
+walk (l ∷ ls) t = walk ls (l t)
 
 -- VAL: the place that a REF names, if it begins at an item
-abbrev pub val_by : At → At → Option (Place × Mode) → Outcome Found
-val_by at first None = Err (fault.WrongMode first)
-val_by at first (Some x) = Ok (found at (place x.0 x.1 standing.Shared))
+abbrev pub val_by : At → At → Bool → Option (Place × Mode) → Outcome Judged
+val_by at first known None = Err (fault.WrongMode first)
+val_by at first known (Some x) = Ok (seen_as known at (place x.0 x.1 standing.Shared))
 
 abbrev pub with_place : Place → Option Mode → Option (Place × Mode)
 with_place p (Some m) = Some (p, m)
@@ -182,8 +208,8 @@ target_of (place p m st) = with_place (through p) (ref_of (out-Mode m))
 target_of (result v m) = with_place (places.Through v) (ref_of (out-Mode m))
 target_of _ = None
 
-abbrev pub val : At → Outcome Found → Outcome Found
-val at t = t >>= λ f. val_by at f.at (target_of f.is)
+abbrev pub val : At → Outcome Judged → Outcome Judged
+val at t = t >>= λ j. val_by at j.found.at j.known (target_of j.found.is)
 
 -- ---- operators
 
@@ -235,17 +261,39 @@ array_in (place p m st) = array_at m p
 array_in (result v m) = row_result (out-Mode m) v
 array_in _ = None
 
-abbrev pub length_of : At → Found → Outcome Found
-length_of at f = or_fault (fault.WrongMode f.at) (array_in f.is) >>= λ p. Ok (found at (computed (values.Length p) base.Int))
+abbrev pub length_of : At → Judged → Outcome Judged
+length_of at j = or_fault (fault.WrongMode j.found.at) (array_in j.found.is) >>= λ p. Ok (seen_as j.known at (computed (values.Length p) base.Int))
 
-abbrev pub monadic_by : At → Op1 → Found → Option Made1 → Outcome Found
-monadic_by at op f None = length_of at f
-monadic_by at op f (Some o) = do
-  x ← suits f (basic (takes op (base_in f.is)))
-  Ok (found at (computed (values.Monadic o x) (gives op (base_in f.is))))
+abbrev pub monadic_by : At → Op1 → Judged → Option Made1 → Outcome Judged
+monadic_by at op j None = length_of at j
+monadic_by at op j (Some o) = do
+  x ← or_other (values.Number 0) true (suits_as j (basic (takes op (base_in j.found.is))))
+  Ok (seen_as x.1 at (computed (values.Monadic o x.0) (gives op (base_in j.found.is))))
 
-abbrev pub monadic : At → Op1 → Outcome Found → Outcome Found
-monadic at op t = t >>= λ f. monadic_by at op f (made_monadic op)
+abbrev pub of_operand : At → Op1 → Judged → Outcome Judged
+of_operand at op j = monadic_by at op j (made_monadic op)
+
+-- the mode that a monadic operator gives, if it gives one alone
+abbrev pub gives_always : Op1 → Option Base
+gives_always op1.Not = Some base.Int
+gives_always op1.Int = Some base.Int
+gives_always op1.Length = Some base.Int
+gives_always op1.Byte = Some base.Byte
+gives_always op1.Frac = Some base.Frac
+gives_always _ = None
+
+-- Some operators give one mode, whatever their operand is.
+abbrev pub of_unknown_by : At → Option Base → Outcome Judged
+of_unknown_by at None = unknown
+of_unknown_by at (Some b) = Ok (seen_as false at (computed (values.Number 0) b))
+
+abbrev pub of_unknown : At → Op1 → Outcome Judged
+of_unknown at op = of_unknown_by at (gives_always op)
+
+abbrev pub monadic : At → Op1 → Outcome Judged → Outcome Judged
+monadic at op (Ok j) = of_operand at op j
+monadic at op (Err fault.Unknown) = of_unknown at op
+monadic at op (Err g) = Err g
 
 -- the operators that are of INT alone
 abbrev pub of_int : Op2 → Bool
@@ -282,50 +330,95 @@ made_dyadic op2.Minus b = two.Minus
 made_dyadic op2.Lor b = two.Lor
 made_dyadic op2.Nev b = two.Nev
 
-abbrev pub computes : At → Op2 → Base → Outcome (Value × Value) → Outcome Found
-computes at op b t = t >>= λ x. Ok (found at (computed (values.Dyadic (made_dyadic op b) x.0 x.1) b))
+abbrev pub computes : At → Op2 → Base → Outcome (Value × Value) → Outcome Judged
+computes at op b t = or_other (values.Number 0, values.Number 0) true t >>= λ x. Ok (seen_as x.1 at (computed (values.Dyadic (made_dyadic op b) x.0.0 x.0.1) b))
 
 -- a node whose left operand says what is wanted of both
-abbrev pub by_left : At → Op2 → Outcome Found → Outcome Found → Outcome Found
-by_left at op a c = a >>= λ f. let b = frac_or_int (base_in f.is) in computes at op b (both (suits f (basic b)) (fits c (basic (right_takes op b))))
+abbrev pub by_left : At → Op2 → Judged → Outcome Judged → Outcome Judged
+by_left at op j c = let b = frac_or_int (base_in j.found.is) in computes at op b (both (suits_as j (basic b)) (fits c (basic (right_takes op b))))
 
-abbrev pub dyadic : At → Op2 → Outcome Found → Outcome Found → Outcome Found
-dyadic at op a c = if of_int op then computes at op base.Int (both (fits a (basic base.Int)) (fits c (basic base.Int))) else by_left at op a c
+abbrev pub is_shift : Op2 → Bool
+is_shift op2.Sll = true
+is_shift op2.Srl = true
+is_shift op2.Sla = true
+is_shift op2.Sra = true
+is_shift _ = false
+
+abbrev pub fault_of : {A : Type 0} → Outcome A → CheckFault
+fault_of (Ok x) = fault.Unknown
+fault_of (Err g) = g
+
+-- the fault of a right operand whose left one isn't known: the count of a shift is INT, another is judged by itself
+abbrev pub right_alone : Op2 → Outcome Judged → CheckFault
+right_alone op c = if is_shift op then fault_of (fits c (basic base.Int)) else by_itself c
+
+abbrev pub left_first : At → Op2 → Outcome Judged → Outcome Judged → Outcome Judged
+left_first at op (Ok j) c = by_left at op j c
+left_first at op (Err g) c = Err (sooner g (right_alone op c))
+
+abbrev pub dyadic : At → Op2 → Outcome Judged → Outcome Judged → Outcome Judged
+dyadic at op a c = if of_int op then computes at op base.Int (both (fits a (basic base.Int)) (fits c (basic base.Int))) else left_first at op a c
 
 -- ---- the whole
 
--- a chain: its name, then its links
-abbrev pub chained : Scope → List ℕ → At → List (Found → Outcome Found) → Outcome Found
-chained s name at links = named at (find s name) >>= λ is. walk links (found at is)
+-- the name of a chain
+abbrev pub begun : At → Option Meaning → Outcome Judged
+begun at m = named at m >>= λ is. Ok (seen_as true at is)
 
-abbrev pub expr_step : Scope → Expr-F (Outcome Found) (Found → Outcome Found) (Outcome Found) → Outcome Found
-expr_step s (Expr-F.Number n at) = Ok (found at (number n))
+-- a chain: its name, then its links
+abbrev pub chained : Scope → List ℕ → At → List (Outcome Judged → Outcome Judged) → Outcome Judged
+chained s name at links = walk links (begun at (find s name))
+
+abbrev pub expr_step : Scope → Expr-F (Outcome Judged) (Outcome Judged → Outcome Judged) (Outcome Judged) → Outcome Judged
+expr_step s (Expr-F.Number n at) = Ok (seen_as true at (number n))
 expr_step s (Expr-F.Text bytes at) = text_at s at
 expr_step s (Expr-F.Chain c) = c
 expr_step s (Expr-F.Val c at) = val at c
 expr_step s (Expr-F.Monadic op a at) = monadic at op a
 expr_step s (Expr-F.Dyadic op a b at) = dyadic at op a b
 
-abbrev pub link_step : Scope → Link-F (Outcome Found) (Found → Outcome Found) (Outcome Found) → Found → Outcome Found
-link_step s (Link-F.Dot name at) = dot s.modes.now.records name at
-link_step s (Link-F.Apply es at) = apply at es
+abbrev pub link_step : Scope → Link-F (Outcome Judged) (Outcome Judged → Outcome Judged) (Outcome Judged) → Outcome Judged → Outcome Judged
+link_step s (Link-F.Dot name at) = dot_after s.modes.now.records name at
+link_step s (Link-F.Apply es at) = apply_after at es
 
-abbrev pub chain_step : Scope → Chain-F (Outcome Found) (Found → Outcome Found) (Outcome Found) → Outcome Found
+abbrev pub chain_step : Scope → Chain-F (Outcome Judged) (Outcome Judged → Outcome Judged) (Outcome Judged) → Outcome Judged
 chain_step s c = chained s c.name c.at c.links
 
 -- what an expression, a link and a chain are
-unfoldable pub judged : Scope → Expr → Outcome Found
-judged s = fold-Expr (Outcome Found) (Found → Outcome Found) (Outcome Found) (expr_step s) (link_step s) (chain_step s)
+unfoldable pub judged : Scope → Expr → Outcome Judged
+judged s = fold-Expr (Outcome Judged) (Outcome Judged → Outcome Judged) (Outcome Judged) (expr_step s) (link_step s) (chain_step s)
 
-unfoldable pub linked : Scope → Link → Found → Outcome Found
-linked s = fold-Link (Outcome Found) (Found → Outcome Found) (Outcome Found) (expr_step s) (link_step s) (chain_step s)
+unfoldable pub linked : Scope → Link → Outcome Judged → Outcome Judged
+linked s = fold-Link (Outcome Judged) (Outcome Judged → Outcome Judged) (Outcome Judged) (expr_step s) (link_step s) (chain_step s)
 
-unfoldable pub judged_chain : Scope → Chain → Outcome Found
-judged_chain s = fold-Chain (Outcome Found) (Found → Outcome Found) (Outcome Found) (expr_step s) (link_step s) (chain_step s)
+unfoldable pub judged_chain : Scope → Chain → Outcome Judged
+judged_chain s = fold-Chain (Outcome Judged) (Outcome Judged → Outcome Judged) (Outcome Judged) (expr_step s) (link_step s) (chain_step s)
 
 -- the value that an expression is where a mode is wanted, or its first fault
 abbrev pub fitted : Scope → Expr → Want → Outcome Value
 fitted s e w = fits (judged s e) w
+
+-- the fault of an expression that is judged by itself
+abbrev pub fitted_alone : Scope → Expr → CheckFault
+fitted_alone s e = by_itself (judged s e)
+
+-- where an expression begins
+abbrev pub begins_at : Expr-F Expr Link Chain → At
+begins_at (Expr-F.Number n at) = at
+begins_at (Expr-F.Text bytes at) = at
+begins_at (Expr-F.Chain c) = (out-Chain c).at
+begins_at (Expr-F.Val c at) = at
+begins_at (Expr-F.Monadic op a at) = at
+begins_at (Expr-F.Dyadic op a b at) = at
+
+-- The fault of an expression where nothing is wanted: it fits nothing, whatever it is.
+abbrev pub nowhere : At → Outcome Judged → CheckFault
+nowhere at (Ok j) = fault.WrongMode j.found.at
+nowhere at (Err fault.Unknown) = fault.WrongMode at
+nowhere at (Err g) = g
+
+abbrev pub fitted_nowhere : Scope → Expr → CheckFault
+fitted_nowhere s e = nowhere (begins_at (out-Expr e)) (judged s e)
 
 -- ---- places that are assigned, and calls that stand alone
 
@@ -335,26 +428,31 @@ is_whole (Mode-F.Record r) = true
 is_whole (Mode-F.Array n m) = true
 is_whole _ = false
 
-abbrev pub assigned_is : At → Is → Outcome (Place × Mode)
-assigned_is at (place p m st) = if is_whole (out-Mode m) then Err (fault.NotAssignable at) else Ok (p, m)
-assigned_is at (loop k) = Err (fault.NotAssignable at)
-assigned_is at (brick k m) = Err (fault.NotAssignable at)
-assigned_is at _ = Err (fault.WrongMode at)
+-- a place and its mode, or its mode where the place can't be known
+abbrev pub place_if : Bool → Place → Option Place
+place_if known p = if known then Some p else None
 
-abbrev pub assigned : Found → Outcome (Place × Mode)
-assigned f = assigned_is f.at f.is
+abbrev pub assigned_is : At → Bool → Is → Outcome (Option Place × Mode)
+assigned_is at known (place p m st) = if is_whole (out-Mode m) then Err (fault.NotAssignable at) else Ok (place_if known p, m)
+assigned_is at known (loop k) = Err (fault.NotAssignable at)
+assigned_is at known (brick k m) = Err (fault.NotAssignable at)
+assigned_is at known _ = Err (fault.WrongMode at)
 
--- the name of a data or stack brick with no link
+abbrev pub assigned : Judged → Outcome (Option Place × Mode)
+assigned j = assigned_is j.found.at j.known j.found.is
+
+-- the name of a brick with no link, whose mode isn't known or which has none
 abbrev pub is_brick : Option Meaning → List Link → Bool
 is_brick (Some (meaning.Data k)) [] = true
 is_brick (Some (meaning.Stack k)) [] = true
+is_brick (Some meaning.UnknownProc) [] = true
 is_brick _ _ = false
 
 -- the place that a chain, or VAL and a chain, assigns, and its mode
-abbrev pub target : Scope → Chain → Outcome (Place × Mode)
+abbrev pub target : Scope → Chain → Outcome (Option Place × Mode)
 target s c = if is_brick (find s (out-Chain c).name) (out-Chain c).links then Err (fault.NotAssignable (out-Chain c).at) else judged_chain s c >>= assigned
 
-abbrev pub val_target : Scope → At → Chain → Outcome (Place × Mode)
+abbrev pub val_target : Scope → At → Chain → Outcome (Option Place × Mode)
 val_target s at c = val at (judged_chain s c) >>= assigned
 
 -- a chain that stands alone is a call
@@ -363,8 +461,30 @@ called_is at (result v m) = Ok v
 called_is at (done v) = Ok v
 called_is at _ = Err (fault.WrongMode at)
 
+abbrev pub call_of : Judged → Outcome Value
+call_of j = if_known j.known (called_is j.found.at j.found.is)
+
+-- whether the last link is parentheses, as that of every call is
+abbrev pub is_apply_link : Link-F Expr Link Chain → Bool
+is_apply_link (Link-F.Apply es at) = true
+is_apply_link _ = false
+
+abbrev pub is_apply : Option Link → Bool
+is_apply None = false
+is_apply (Some l) = is_apply_link (out-Link l)
+
+abbrev pub ends_in_apply : List Link → Bool
+ends_in_apply ls = is_apply (slice_get ls (length ls - 1))
+
+-- What can't be known is no call where it doesn't end in parentheses.
+abbrev pub call_if : At → Bool → Outcome Judged → Outcome Value
+call_if at ends (Ok j) = call_of j
+call_if at true (Err g) = Err g
+call_if at false (Err fault.Unknown) = Err (fault.WrongMode at)
+call_if at false (Err g) = Err g
+
 abbrev pub alone : Scope → Chain → Outcome Value
-alone s c = judged_chain s c >>= λ f. called_is f.at f.is
+alone s c = call_if (out-Chain c).at (ends_in_apply (out-Chain c).links) (judged_chain s c)
 
 -- ---- conditions
 
@@ -403,12 +523,14 @@ compares rel.Same is = reference_in is
 compares rel.Different is = reference_in is
 compares _ is = Some (basic (frac_or_int (base_in is)))
 
-abbrev pub compare_by : Rel → Found → Outcome Found → Option Want → Outcome Test
-compare_by r f b None = Err (fault.WrongMode f.at)
-compare_by r f b (Some w) = both (suits f w) (fits b w) >>= λ x. Ok (tests.Compare (made_rel r) x.0 x.1)
+-- Where what is wanted can't be known the right side is judged by itself.
+abbrev pub compare_by : Rel → Judged → Outcome Judged → Option Want → Outcome Test
+compare_by r j b None = Err (sooner (fault.WrongMode j.found.at) (by_itself b))
+compare_by r j b (Some w) = both (suits_as j w) (fits b w) >>= λ x. Ok (tests.Compare (made_rel r) x.0 x.1)
 
-abbrev pub compare : Rel → Outcome Found → Outcome Found → Outcome Test
-compare r a b = a >>= λ f. compare_by r f b (compares r f.is)
+abbrev pub compare : Rel → Outcome Judged → Outcome Judged → Outcome Test
+compare r (Ok j) b = compare_by r j b (compares r j.found.is)
+compare r (Err g) b = Err (sooner g (by_itself b))
 
 abbrev pub all_from : Outcome (List Test) → List (Outcome Test) → Outcome (List Test)
 all_from so_far [] = so_far

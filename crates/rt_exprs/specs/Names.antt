@@ -1,5 +1,5 @@
 -- What a name stands for, and the string that begins at an item.
-use Rattle.std.specs.Prelude.{ℕ, ◌==◌, nat_lt, if◌then◌else◌, List, [], ◌∷◌, Option, Some, None, Ok, Err, position}
+use Rattle.std.specs.Prelude.{ℕ, ◌==◌, nat_lt, true, if◌then◌else◌, List, [], ◌∷◌, Option, Some, None, Ok, Err, position}
 use Rattle.std.specs.Str.{bytes_eq}
 use Rattle.std.specs.Map.{lookup}
 use Rattle.indexmap.specs.IndexMap.{IndexMap}
@@ -8,7 +8,7 @@ use Rattle.rt_grammar.specs.declared.at.At.{At}
 use Rattle.rt_exprs.specs.declared.fault.CheckFault.TheVariants as fault
 use Rattle.rt_exprs.specs.declared.scope.Meaning.{Meaning}
 use Rattle.rt_exprs.specs.declared.scope.Scope.{Scope}
-use Rattle.rt_exprs.specs.Operands.{Found, text, or_else}
+use Rattle.rt_exprs.specs.Operands.{Judged, text, or_else}
 use Rattle.rt_exprs.specs.Outcomes.{Outcome}
 
 -- the meaning of a name in the innermost level that has it
@@ -20,9 +20,9 @@ abbrev pub find : Scope → List ℕ → Option Meaning
 find s name = find_in s.levels.now name
 
 -- A string that begins at an item: its number, of 16 bits, is its place among the module's strings.
-abbrev pub text_by : At → Option ℕ → Outcome Found
+abbrev pub text_by : At → Option ℕ → Outcome Judged
 text_by at None = Err (fault.WrongMode at)
-text_by at (Some n) = if nat_lt n 65536 then Ok (record { at = at; is = text n }) else Err (fault.WrongMode at)
+text_by at (Some n) = if nat_lt n 65536 then Ok (record { found = record { at = at; is = text n }; known = true }) else Err (fault.WrongMode at)
 
-abbrev pub text_at : Scope → At → Outcome Found
+abbrev pub text_at : Scope → At → Outcome Judged
 text_at s at = text_by at (position (λ x. x == at.item) s.strings.now.keys)

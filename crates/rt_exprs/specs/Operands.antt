@@ -23,7 +23,8 @@ use Rattle.rt_exprs.specs.declared.operand.Wanted.TheVariants as wanted
 use Rattle.rt_exprs.specs.declared.scope.Meaning.{Meaning}
 use Rattle.rt_exprs.specs.declared.scope.Meaning.TheVariants as meaning
 use Rattle.rt_exprs.specs.Modes.{Layer, Want, basic, ref, row, proc, nothing, same, becomes, basic_becomes, is_ref, is_row, is_proc, is_byte, is_int, only_if}
-use Rattle.rt_exprs.specs.Outcomes.{Outcome, ◌>>=◌, or_fault}
+use Rattle.rt_exprs.specs.declared.fault.CheckFault.{CheckFault}
+use Rattle.rt_exprs.specs.Outcomes.{Outcome, ◌>>=◌, or_fault, unknown}
 
 -- What an expression is by itself: a number, a string, a procedure brick, a place, the variable of a FOR loop, the result
 -- of a call, the result of an operator, or a call without result.
@@ -54,8 +55,14 @@ seen (meant.Result v m) = result v m.now
 seen (meant.Computed v b) = computed v b
 seen (meant.Done v) = done v
 
-abbrev pub found_of : Operand → Found
-found_of o = record { at = o.at; is = seen o.is }
+-- An expression, and whether all of it is known. Where it isn't its mode is known, and others stand for those of its parts that
+-- can't be known; nothing looks at them.
+pub record Judged : Type 0 where
+  pub found : Found
+  pub known : Bool
+
+abbrev pub judged_of : Operand → Judged
+judged_of o = record { found = record { at = o.at; is = seen o.is }; known = o.known }
 
 abbrev pub want_of : Wanted → Want
 want_of (wanted.Basic b) = basic b
@@ -70,7 +77,7 @@ abbrev pub or_else : {A : Type 0} → Option A → Option A → Option A
 or_else (Some x) other = Some x
 or_else None other = other
 
--- A name that stands by itself: what it is, or its fault. Of a name whose declaration is unfit the fault is the declaration's.
+-- A name that stands by itself: what it is, or its fault. Where its mode is unfit it can't be known.
 abbrev pub named : At → Option Meaning → Outcome Is
 named at None = Err (fault.UnknownName at)
 named at (Some (meaning.Proc k m)) = Ok (brick k m)
@@ -79,7 +86,8 @@ named at (Some (meaning.SvcItem b i m)) = Ok (place (places.Item b i) m standing
 named at (Some (meaning.Svc k m)) = if k == 0 then Err (fault.LeftOut 2 at) else Ok (place (places.Svc k) m standing.Private)
 named at (Some (meaning.Local k m)) = Ok (place (places.Local k) m standing.Private)
 named at (Some (meaning.Loop k)) = Ok (loop k)
-named at (Some (meaning.Unfit g)) = Err g
+named at (Some meaning.UnknownProc) = unknown
+named at (Some meaning.Unknown) = unknown
 named at (Some other) = Err (fault.WrongMode at)
 
 -- the number, from k, and the mode of the first field of a name
@@ -96,9 +104,26 @@ abbrev pub field_in : Option RecordDef → List ℕ → Option (ℕ × Mode)
 field_in None name = None
 field_in (Some r) name = as_word (field_from 0 r.fields name)
 
--- the field of a name in a record, by the record's number
+-- the first field of a name in a record, by the record's number
+abbrev pub first_field : List RecordDef → ℕ → List ℕ → Option (ℕ × Mode)
+first_field records r name = field_in (slice_get records r) name
+
+-- A field whose mode is unfit has LABEL, which no field may have: its mode can't be known.
+abbrev pub is_label : Mode-F Mode → Bool
+is_label Mode-F.Label = true
+is_label _ = false
+
+abbrev pub unless_label : Bool → ℕ × Mode → Option (ℕ × Mode)
+unless_label true x = None
+unless_label false x = Some x
+
+abbrev pub if_known_mode : Option (ℕ × Mode) → Option (ℕ × Mode)
+if_known_mode None = None
+if_known_mode (Some x) = unless_label (is_label (out-Mode x.1)) x
+
+-- the field of a name in a record, by the record's number, where its mode is known
 abbrev pub field_of : List RecordDef → ℕ → List ℕ → Option (ℕ × Mode)
-field_of records r name = field_in (slice_get records r) name
+field_of records r name = if_known_mode (first_field records r name)
 
 -- ---- the value where a mode is wanted
 
@@ -140,5 +165,24 @@ suits_by at (done v) w = Err (fault.WrongMode at)
 abbrev pub suits : Found → Want → Outcome Value
 suits f w = suits_by f.at f.is w
 
-abbrev pub fits : Outcome Found → Want → Outcome Value
-fits t w = t >>= λ f. suits f w
+-- what would be a value, but isn't all known, can't be known
+abbrev pub if_known : {A : Type 0} → Bool → Outcome A → Outcome A
+if_known true t = t
+if_known false (Ok x) = unknown
+if_known false (Err g) = Err g
+
+abbrev pub suits_as : Judged → Want → Outcome Value
+suits_as j w = if_known j.known (suits j.found w)
+
+abbrev pub fits : Outcome Judged → Want → Outcome Value
+fits t w = t >>= λ j. suits_as j w
+
+-- The fault of an expression of which no mode is known to be wanted, which is judged by itself: a call without result fits no
+-- mode. Where none stands, that is what can't be known.
+abbrev pub alone_is : At → Is → CheckFault
+alone_is at (done v) = fault.WrongMode at
+alone_is at _ = fault.Unknown
+
+abbrev pub by_itself : Outcome Judged → CheckFault
+by_itself (Ok j) = alone_is j.found.at j.found.is
+by_itself (Err g) = g

@@ -1,8 +1,8 @@
 -- What is found, or the first fault: the one at the least item, and of those the one of least number.
-use Rattle.std.specs.Prelude.{◌≡◌, ◌⊎◌, IsTrue, ℕ, Bool, nat_lt, nat_le, ◌==◌, ◌||◌, ◌&&◌, if◌then◌else◌, List, [], ◌∷◌, ◌++◌, Option, Some, None, Result, Ok, Err}
+use Rattle.std.specs.Prelude.{◌≡◌, ◌⊎◌, IsTrue, ℕ, Bool, nat_lt, nat_le, ◌==◌, ◌||◌, ◌&&◌, not, true, false, if◌then◌else◌, List, [], ◌∷◌, ◌++◌, Option, Some, None, Result, Ok, Err}
 use Rattle.rt_grammar.specs.declared.at.At.{At}
 use Rattle.rt_exprs.specs.declared.fault.CheckFault.{CheckFault}
-use Rattle.rt_exprs.specs.declared.fault.CheckFault.TheVariants.{Memory, UnknownName, WrongMode, NotAssignable, WrongCount, RefOfLocal, LeftOut, DeclaredTwice, BadStart, UnknownLabel, NoResult}
+use Rattle.rt_exprs.specs.declared.fault.CheckFault.TheVariants.{Memory, UnknownName, WrongMode, NotAssignable, WrongCount, RefOfLocal, LeftOut, DeclaredTwice, BadStart, UnknownLabel, NoResult, Unknown}
 
 abbrev pub number_of : CheckFault → ℕ
 number_of Memory = 0
@@ -16,6 +16,7 @@ number_of (DeclaredTwice at) = 26
 number_of (BadStart at) = 27
 number_of (UnknownLabel at) = 28
 number_of (NoResult at) = 29
+number_of Unknown = 0
 
 -- where it stands
 abbrev pub at_of : CheckFault → Option At
@@ -30,6 +31,7 @@ at_of (DeclaredTwice at) = Some at
 at_of (BadStart at) = Some at
 at_of (UnknownLabel at) = Some at
 at_of (NoResult at) = Some at
+at_of Unknown = None
 
 abbrev pub item_at : Option At → ℕ
 item_at None = 0
@@ -39,8 +41,17 @@ item_at (Some at) = at.item
 abbrev pub item_of : CheckFault → ℕ
 item_of f = item_at (at_of f)
 
+-- what can't be known is no fault
+abbrev pub is_unknown : CheckFault → Bool
+is_unknown Unknown = true
+is_unknown _ = false
+
+abbrev pub stands_before : CheckFault → CheckFault → Bool
+stands_before f g = nat_lt (item_of f) (item_of g) || (item_of f == item_of g && nat_le (number_of f) (number_of g))
+
+-- every fault goes before what can't be known
 abbrev pub is_before : CheckFault → CheckFault → Bool
-is_before f g = nat_lt (item_of f) (item_of g) || (item_of f == item_of g && nat_le (number_of f) (number_of g))
+is_before f g = is_unknown g || (not (is_unknown f) && stands_before f g)
 
 abbrev pub sooner : CheckFault → CheckFault → CheckFault
 sooner f g = if is_before f g then f else g
@@ -48,7 +59,11 @@ sooner f g = if is_before f g then f else g
 abbrev pub Outcome : Type 0 → Type 0
 Outcome A = Result A CheckFault
 
--- A node that holds an unfit one isn't judged.
+-- A third answer, beside what something is and its fault: it can't be known, since a declaration is unfit.
+abbrev pub unknown : {A : Type 0} → Outcome A
+unknown = Err Unknown
+
+-- A node that holds an unfit one, or one that can't be known, isn't judged.
 infixl 10 ◌>>=◌
 abbrev pub ◌>>=◌ : {A B : Type 0} → Outcome A → (A → Outcome B) → Outcome B
 Ok a >>= q = q a
@@ -75,6 +90,12 @@ abbrev pub or_fault : {A : Type 0} → CheckFault → Option A → Outcome A
 or_fault f (Some x) = Ok x
 or_fault f None = Err f
 
+-- a thing, and whether it is known: where it can't be known another stands for it, at which nothing looks
+abbrev pub or_other : {A : Type 0} → A → Bool → Outcome A → Outcome (A × Bool)
+or_other other known (Ok x) = Ok (x, known)
+or_other other known (Err Unknown) = Ok (other, false)
+or_other other known (Err g) = Err g
+
 abbrev pub UnlessMemory : CheckFault → Type 0 → Type 0
 UnlessMemory Memory P = Unit {0}
 UnlessMemory _ P = P
@@ -89,9 +110,10 @@ pub record IsLeast (Stands : CheckFault → Type 0) (g : CheckFault) : Type 0 wh
   pub stands : Stands g
   pub least : (h : CheckFault) → Stands h → IsTrue (is_before g h)
 
--- A fault that is answered: want of memory, or the fault that counts of those that stand.
+-- A fault that is answered: want of memory, or the fault that counts of those that stand. Where it can't be known none stands.
 abbrev pub Settles : (CheckFault → Type 0) → CheckFault → Type 0
 Settles Stands Memory = Unit {0}
+Settles Stands Unknown = (g : CheckFault) → Stands g → ⊥
 Settles Stands g = IsLeast Stands g
 
 -- what holds is answered, unless memory runs out

@@ -7,10 +7,10 @@ ghost use Rattle.rt_exprs.specs.Fitting.{TestIs, FaultInTest};
 ghost use Rattle.rt_modes.specs.declared.mode.Mode.TheVariants as mode;
 ghost use Rattle.rt_modes.specs.declared.mode.Mode.{out-Mode};
 ghost use Rattle.rt_exprs.specs.Judging as spec;
-ghost use Rattle.rt_exprs.specs.Operands.{seen, found_of, want_of};
+ghost use Rattle.rt_exprs.specs.Operands.{seen, want_of};
 ghost use Rattle.rt_exprs.specs.Outcomes.{Gives};
 
-use crate::expression::{fit_wanted, judge};
+use crate::expression::{fit_by_itself, fit_wanted, judge};
 use crate::operators::{base_in, frac_or_int};
 use crate::{Base, CheckFault, Meant, Operand, Scope, Wanted, after, both, suits};
 use rt_modes::Mode;
@@ -73,12 +73,18 @@ fn compare(
 ) -> Result<Test, CheckFault>
     ensures { Gives (λ t. t) result (spec.compare relation (spec.judged scope.now left.now) (spec.judged scope.now right.now)) }
 {
-    let operand = judge(alloc, scope, left)?;
+    let operand = match judge(alloc, scope, left) {
+        Ok(operand) => operand,
+        Err(fault) => return Err(fault.sooner(fit_by_itself(alloc, right, scope))),
+    };
     let first = operand.at;
     let byte = Mode::Byte;
     let int = Mode::Int;
     match compared(relation, &operand.is, &byte, &int) {
-        None => Err(CheckFault::WrongMode(first)),
+        None => {
+            let fault = CheckFault::WrongMode(first);
+            Err(fault.sooner(fit_by_itself(alloc, right, scope)))
+        }
         Some(wanted) => {
             let x = suits(alloc, operand, wanted);
             let y = fit_wanted(alloc, scope, right, wanted);

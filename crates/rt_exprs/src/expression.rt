@@ -3,15 +3,18 @@
 ghost use Rattle.std.specs.Prelude.{◌≡◌, map, IfOk, IfErr};
 ghost use Rattle.rt_exprs.specs.Outcomes.{Settles, IsAnswered};
 ghost use Rattle.rt_exprs.specs.Fitting.{Fits, Faulty};
+ghost use Rattle.rt_syntax_exprs.specs.declared.tree.Expr.{out-Expr};
 ghost use Rattle.rt_exprs.specs.Judging as spec;
 ghost use Rattle.rt_exprs.specs.Modes.{want};
-ghost use Rattle.rt_exprs.specs.Operands.{found_of, want_of};
-ghost use Rattle.rt_exprs.specs.Outcomes.{Gives};
+ghost use Rattle.std.specs.Option.{option_copied};
+ghost use Rattle.rt_exprs.specs.Operands.{Judged, judged_of, want_of};
+ghost use Rattle.rt_exprs.specs.Outcomes.{Outcome, Gives, UnlessMemory};
 
 use crate::links::{Reach, called, dot, element, reached, val};
 use crate::operators::{dyadic, monadic};
+use crate::suit::by_itself;
 use crate::{
-    Base, CheckFault, Meant, Operand, Scope, Wanted, after, find, fits, name_at, text_at,
+    Base, CheckFault, Meaning, Meant, Operand, Scope, Wanted, after, find, fits, name_at, text_at,
     wanted as wanted_of,
 };
 use rt_grammar::At;
@@ -24,12 +27,13 @@ use std::alloc::Global;
 /// What an expression is by itself.
 #[cycle(judge)]
 pub fn judge<'a>(alloc: Global, scope: &Scope<'a>, expr: &Expr) -> Result<Operand<'a>, CheckFault>
-    ensures { Gives found_of result (spec.judged scope.now expr.now) }
+    ensures { Gives judged_of result (spec.judged scope.now expr.now) }
 {
     match expr {
         Expr::Number(n, at) => Ok(Operand {
             at: *at,
             is: Meant::Number(*n),
+            known: true,
         }),
         Expr::Text(_, at) => text_at(scope, *at),
         Expr::Chain(chain) => judge_chain(alloc, scope, chain),
@@ -56,50 +60,88 @@ pub fn judge_chain<'a>(
     scope: &Scope<'a>,
     chain: &Chain,
 ) -> Result<Operand<'a>, CheckFault>
-    ensures { Gives found_of result (spec.judged_chain scope.now chain.now) }
+    ensures { Gives judged_of result (spec.judged_chain scope.now chain.now) }
 {
-    let is = match name_at(find(scope, chain.name.as_slice()), chain.at) {
-        Ok(is) => is,
-        Err(fault) => return Err(fault),
-    };
-    let mut operand = Operand { at: chain.at, is };
+    let mut operand = named(find(scope, chain.name.as_slice()), chain.at);
     for link in chain.links.as_slice() {
-        match follow(alloc, scope, link, operand) {
-            Ok(next) => operand = next,
-            Err(fault) => return Err(fault),
-        }
+        operand = follow(alloc, scope, link, operand);
     }
-    Ok(operand)
+    operand
 }
 
-/// Where a link leads.
+/// What the name of a chain is by itself.
+fn named<'a>(meaning: Option<&'a Meaning>, at: At) -> Result<Operand<'a>, CheckFault>
+    ensures { Gives judged_of result (spec.begun at (option_copied meaning.entry)) }
+{
+    let is = name_at(meaning, at)?;
+    Ok(Operand {
+        at,
+        is,
+        known: true,
+    })
+}
+
+/// Where a link leads. Behind what isn't known what stands between parentheses is judged by itself.
 #[cycle(judge)]
 fn follow<'a>(
     alloc: Global,
     scope: &Scope<'a>,
     link: &Link,
-    operand: Operand<'a>,
+    operand: Result<Operand<'a>, CheckFault>,
 ) -> Result<Operand<'a>, CheckFault>
-    ensures { Gives found_of result (spec.linked scope.now link.now (found_of operand.entry)) }
+    ensures { (t : Outcome Judged) → Gives judged_of operand.entry t → Gives judged_of result (spec.linked scope.now link.now t) }
 {
     match link {
         Link::Dot(name, at) => dot(alloc, scope.modes, name, *at, operand),
         Link::Apply(arguments, at) => {
-            let Operand { at: begins, is } = operand;
             let arguments = arguments.as_slice();
-            match reached(alloc, is)? {
-                Reach::Rows(place, mode, standing) => {
-                    let subscript = fit_subscript(alloc, scope, *at, arguments);
-                    element(alloc, begins, place, mode, standing, subscript)
-                }
-                Reach::Calls(callee, parameters, answer) => {
-                    let arguments = fit_counted(alloc, scope, begins, arguments, parameters);
-                    called(begins, callee, answer, arguments)
-                }
-                Reach::Neither => Err(CheckFault::WrongMode(*at)),
+            match operand {
+                Ok(operand) => apply(alloc, scope, *at, arguments, operand),
+                Err(fault) => Err(all_alone(alloc, scope, fault, arguments)),
             }
         }
     }
+}
+
+/// What parentheses, of which the first stands at `mark`, select or call.
+#[cycle(judge)]
+fn apply<'a>(
+    alloc: Global,
+    scope: &Scope<'a>,
+    mark: At,
+    arguments: &[Expr],
+    operand: Operand<'a>,
+) -> Result<Operand<'a>, CheckFault>
+    ensures { Gives judged_of result (spec.apply mark (map (spec.judged scope.now) arguments.now) (judged_of operand.entry)) }
+{
+    let Operand {
+        at: begins,
+        is,
+        known,
+    } = operand;
+    match reached(alloc, is)? {
+        Reach::Rows(place, mode, standing) => {
+            let subscript = fit_subscript(alloc, scope, mark, arguments);
+            element(alloc, begins, place, mode, standing, known, subscript)
+        }
+        Reach::Calls(callee, parameters, answer) => {
+            let arguments = fit_counted(alloc, scope, begins, arguments, parameters);
+            called(alloc, begins, callee, answer, known, arguments)
+        }
+        Reach::Neither => Err(CheckFault::WrongMode(mark)),
+    }
+}
+
+/// The fault that counts of a fault and of expressions that are judged by themselves.
+#[cycle(judge)]
+fn all_alone(alloc: Global, scope: &Scope<'_>, fault: CheckFault, exprs: &[Expr]) -> CheckFault
+    ensures { UnlessMemory result (result ≡ spec.all_alone fault (map (spec.judged scope.now) exprs.now)) }
+{
+    let mut first = fault;
+    for expr in exprs {
+        first = first.sooner(by_itself(judge(alloc, scope, expr)));
+    }
+    first
 }
 
 /// A subscript, which stands alone between parentheses.
@@ -132,11 +174,13 @@ fn fit_counted(
 ) -> Result<List<Value>, CheckFault>
     ensures { Gives (λ x. x) result (spec.counted at (map (spec.judged scope.now) arguments.now) parameters.now) }
 {
-    let values = fit_arguments(alloc, scope, arguments, parameters)?;
-    if arguments.len() != parameters.len() {
-        return Err(CheckFault::WrongCount(at));
+    let values = fit_arguments(alloc, scope, arguments, parameters);
+    match values {
+        Ok(_) | Err(CheckFault::Unknown) if arguments.len() != parameters.len() => {
+            Err(CheckFault::WrongCount(at))
+        }
+        _ => values,
     }
-    Ok(values)
 }
 
 /// The arguments that have a parameter, each where its mode is wanted.
@@ -170,6 +214,39 @@ pub fn fit_wanted(
 {
     let operand = judge(alloc, scope, expr);
     fits(alloc, operand, wanted)
+}
+
+/// The fault of an expression of which no mode is known to be wanted: it is judged by itself. Where none stands, that is what
+/// can't be known.
+pub fn fit_by_itself(alloc: Global, expr: &Expr, scope: &Scope<'_>) -> CheckFault
+    ensures value { UnlessMemory result (result ≡ spec.fitted_alone scope.now expr.now) }
+{
+    by_itself(judge(alloc, scope, expr))
+}
+
+/// The fault of an expression where nothing is wanted: it fits nothing.
+pub fn fit_nothing(alloc: Global, expr: &Expr, scope: &Scope<'_>) -> CheckFault
+    ensures value { UnlessMemory result (result ≡ spec.fitted_nowhere scope.now expr.now) }
+{
+    match judge(alloc, scope, expr) {
+        Ok(operand) => CheckFault::WrongMode(operand.at),
+        Err(CheckFault::Unknown) => CheckFault::WrongMode(begins(expr)),
+        Err(fault) => fault,
+    }
+}
+
+/// Where an expression begins.
+fn begins(expr: &Expr) -> At
+    ensures { result ≡ spec.begins_at (out-Expr expr.now) }
+{
+    match expr {
+        Expr::Number(_, at)
+        | Expr::Text(_, at)
+        | Expr::Val(_, at)
+        | Expr::Monadic(_, _, at)
+        | Expr::Dyadic(_, _, _, at) => *at,
+        Expr::Chain(chain) => chain.at,
+    }
 }
 
 /// The value that an expression is where a mode is wanted.

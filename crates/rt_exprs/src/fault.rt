@@ -44,6 +44,9 @@ pub enum CheckFault {
     /// A result that is missing: at ENDPROC, or at RETURN.
     #[error("line {}: no result", .0.line)]
     NoResult(At),
+    /// What can't be known, since a declaration is unfit. It is no fault of its own: each fault goes before it.
+    #[error("not known")]
+    Unknown,
 }
 
 impl From<Memory> for CheckFault {
@@ -58,12 +61,12 @@ impl From<Memory> for CheckFault {
 }
 
 impl CheckFault {
-    /// The number of the fault, 20 to 29; 0 for want of memory.
+    /// The number of the fault, 20 to 29; 0 for want of memory, and for what can't be known.
     pub fn number(self) -> u8
         ensures { result ≡ spec.number_of self }
     {
         match self {
-            CheckFault::Memory => 0,
+            CheckFault::Memory | CheckFault::Unknown => 0,
             CheckFault::UnknownName(_) => 20,
             CheckFault::WrongMode(_) => 21,
             CheckFault::NotAssignable(_) => 22,
@@ -77,12 +80,12 @@ impl CheckFault {
         }
     }
 
-    /// Where the fault stands; `None` for want of memory.
+    /// Where the fault stands; `None` for want of memory, and for what can't be known.
     pub fn at(self) -> Option<At>
         ensures { result ≡ spec.at_of self }
     {
         match self {
-            CheckFault::Memory => None,
+            CheckFault::Memory | CheckFault::Unknown => None,
             CheckFault::UnknownName(at)
             | CheckFault::WrongMode(at)
             | CheckFault::NotAssignable(at)
@@ -96,7 +99,7 @@ impl CheckFault {
         }
     }
 
-    /// The number of the item where the fault stands; 0 for want of memory.
+    /// The number of the item where the fault stands; 0 for want of memory, and for what can't be known.
     pub fn item(self) -> u16
         ensures { result ≡ spec.item_of self }
     {
@@ -106,15 +109,31 @@ impl CheckFault {
         }
     }
 
-    fn is_before(self, other: CheckFault) -> bool
-        ensures { result ≡ spec.is_before self other }
+    /// Whether it is what can't be known.
+    pub fn is_unknown(self) -> bool
+        ensures { result ≡ spec.is_unknown self }
+    {
+        match self {
+            CheckFault::Unknown => true,
+            _ => false,
+        }
+    }
+
+    fn stands_before(self, other: CheckFault) -> bool
+        ensures { result ≡ spec.stands_before self other }
     {
         self.item() < other.item()
             || (self.item() == other.item() && self.number() <= other.number())
     }
 
+    fn is_before(self, other: CheckFault) -> bool
+        ensures { result ≡ spec.is_before self other }
+    {
+        other.is_unknown() || (!self.is_unknown() && self.stands_before(other))
+    }
+
     /// The one of two faults that counts: the one at the earlier item, and at one item that of the
-    /// lesser number. Want of memory goes before every fault.
+    /// lesser number. Want of memory goes before every fault, and what can't be known behind every fault.
     pub fn sooner(self, other: CheckFault) -> CheckFault
         ensures { result ≡ spec.sooner self other }
     {
@@ -164,5 +183,20 @@ pub fn after<T: Drop>(
             Err(fault) => Err(fault),
         },
         Err(fault) => Err(earlier(fault, next)),
+    }
+}
+
+/// A value, and whether it is known: where it can't be known, another stands for it.
+pub fn or_other<T: Drop>(
+    value: Result<T, CheckFault>,
+    other: T,
+    known: bool,
+) -> Result<(T, bool), CheckFault>
+    ensures { (t : Outcome T) → Gives (λ x. x) value t → Gives (λ x. x) result (spec.or_other other known t) }
+{
+    match value {
+        Ok(value) => Ok((value, known)),
+        Err(CheckFault::Unknown) => Ok((other, false)),
+        Err(fault) => Err(fault),
     }
 }

@@ -27,8 +27,8 @@ mod suit;
 mod target;
 
 pub use condition::fit_condition;
-pub use expression::{fit, one_value};
-pub use fault::{CheckFault, after, both};
+pub use expression::{fit, fit_by_itself, fit_nothing, one_value};
+pub use fault::{CheckFault, after, both, or_other};
 pub use modes::{
     array_at, base_of, lent, record_of, ref_of, references_are_followed, through, wanted,
 };

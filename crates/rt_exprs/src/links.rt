@@ -6,12 +6,12 @@ ghost use Rattle.rt_modes.specs.declared.mode.Mode.{out-Mode};
 ghost use Rattle.rt_tree_nodes.specs.declared.value.Callee.TheVariants as callees;
 ghost use Rattle.rt_tree_nodes.specs.declared.value.Value.TheVariants as values;
 ghost use Rattle.rt_exprs.specs.Judging as spec;
-ghost use Rattle.rt_exprs.specs.Operands.{Found, seen, found_of};
+ghost use Rattle.rt_exprs.specs.Operands.{Judged, seen, judged_of};
 ghost use Rattle.rt_exprs.specs.Outcomes.{Outcome, Gives};
 
 use crate::{
-    CheckFault, IndexedRecords, Meant, Operand, Standing, field_named, lent, record_of, ref_of,
-    through,
+    CheckFault, IndexedRecords, Meant, Operand, Standing, field_named, lent, or_other, record_of,
+    ref_of, through,
 };
 use rt_grammar::{At, Ident};
 use rt_modes::Mode;
@@ -59,20 +59,26 @@ pub fn dot<'a>(
     modes: &'a IndexedRecords,
     name: &Ident,
     at: At,
-    operand: Operand<'a>,
+    operand: Result<Operand<'a>, CheckFault>,
 ) -> Result<Operand<'a>, CheckFault>
-    ensures { Gives found_of result (spec.dot modes.now.records name.now at (found_of operand.entry)) }
+    ensures { (t : Outcome Judged) → Gives judged_of operand.entry t → Gives judged_of result (spec.dot_after modes.now.records name.now at t) }
 {
-    let begins = operand.at;
-    match record_in(alloc, operand.is)? {
+    let Operand {
+        at: begins,
+        is,
+        known,
+    } = operand?;
+    match record_in(alloc, is)? {
         None => Err(CheckFault::WrongMode(at)),
         Some((place, record, standing)) => match field_named(modes, record, name.name.as_slice()) {
             None => Err(CheckFault::UnknownName(name.at)),
+            Some((_, Mode::Label)) => Err(CheckFault::Unknown),
             Some((field, mode)) => {
                 let place = Place::Field(Boxed::new(alloc, place)?, field);
                 Ok(Operand {
                     at: begins,
                     is: Meant::Place(place, mode, standing),
+                    known,
                 })
             }
         },
@@ -161,33 +167,38 @@ pub fn element<'a>(
     place: Place,
     mode: &'a Mode,
     standing: Standing,
+    known: bool,
     subscript: Result<Value, CheckFault>,
 ) -> Result<Operand<'a>, CheckFault>
-    ensures { (t : Outcome Value) → Gives (λ v. v) subscript t → Gives found_of result (spec.selected at place mode.now standing t) }
+    ensures { (t : Outcome Value) → Gives (λ v. v) subscript t → Gives judged_of result (spec.selected at place mode.now standing known t) }
 {
-    let subscript = subscript?;
+    let (subscript, known) = or_other(subscript, Value::Number(0), known)?;
     let place = Place::Element(Boxed::new(alloc, place)?, Boxed::new(alloc, subscript)?);
     Ok(Operand {
         at,
         is: Meant::Place(place, mode, standing),
+        known,
     })
 }
 
 /// What a call is.
 pub fn called<'a>(
+    alloc: Global,
     at: At,
     callee: Callee,
     answer: Option<&'a Mode>,
+    known: bool,
     arguments: Result<List<Value>, CheckFault>,
 ) -> Result<Operand<'a>, CheckFault>
-    ensures { (t : Outcome (List Value)) → Gives (λ x. x) arguments t → Gives found_of result (spec.answered at callee (option_copied answer.entry) t) }
+    ensures { (t : Outcome (List Value)) → Gives (λ x. x) arguments t → Gives judged_of result (spec.answered at callee (option_copied answer.entry) known t) }
 {
-    let call = Value::Call(callee, arguments?);
+    let (arguments, known) = or_other(arguments, List::new(alloc, 0)?, known)?;
+    let call = Value::Call(callee, arguments);
     let is = match answer {
         Some(mode) => Meant::Result(call, mode),
         None => Meant::Done(call),
     };
-    Ok(Operand { at, is })
+    Ok(Operand { at, is, known })
 }
 
 /// The place that VAL names, if the whole begins at `at`.
@@ -196,14 +207,19 @@ pub fn val<'a>(
     at: At,
     operand: Result<Operand<'a>, CheckFault>,
 ) -> Result<Operand<'a>, CheckFault>
-    ensures { (t : Outcome Found) → Gives found_of operand.entry t → Gives found_of result (spec.val at t) }
+    ensures { (t : Outcome Judged) → Gives judged_of operand.entry t → Gives judged_of result (spec.val at t) }
 {
-    let Operand { at: first, is } = operand?;
+    let Operand {
+        at: first,
+        is,
+        known,
+    } = operand?;
     match named_by(alloc, is)? {
         None => Err(CheckFault::WrongMode(first)),
         Some((place, mode)) => Ok(Operand {
             at,
             is: Meant::Place(place, mode, Standing::Shared),
+            known,
         }),
     }
 }

@@ -3,7 +3,7 @@
 ghost use Rattle.std.specs.Prelude.{◌≡◌};
 ghost use Rattle.std.specs.Option.{option_copied};
 ghost use Rattle.rt_exprs.specs.Names as spec;
-ghost use Rattle.rt_exprs.specs.Operands.{seen, found_of, named};
+ghost use Rattle.rt_exprs.specs.Operands.{seen, judged_of, named};
 ghost use Rattle.rt_exprs.specs.Outcomes.{Gives};
 
 use crate::fault::CheckFault;
@@ -49,7 +49,7 @@ pub fn name_at<'a>(meaning: Option<&'a Meaning>, at: At) -> Result<Meant<'a>, Ch
                 Ok(Meant::Place(Place::Local(*local), mode, Standing::Private))
             }
             Meaning::Loop(local) => Ok(Meant::Loop(*local)),
-            Meaning::Unfit(fault) => Err(*fault),
+            Meaning::UnknownProc | Meaning::Unknown => Err(CheckFault::Unknown),
             _ => Err(CheckFault::WrongMode(at)),
         },
     }
@@ -57,12 +57,13 @@ pub fn name_at<'a>(meaning: Option<&'a Meaning>, at: At) -> Result<Meant<'a>, Ch
 
 /// The string that begins at an item.
 pub fn text_at<'a>(scope: &Scope<'a>, at: At) -> Result<Operand<'a>, CheckFault>
-    ensures { Gives found_of result (spec.text_at scope.now at) }
+    ensures { Gives judged_of result (spec.text_at scope.now at) }
 {
     match scope.strings.get_index_of(&at.item) {
         Some(number) if number < 65536 => Ok(Operand {
             at,
             is: Meant::Text(number as u16),
+            known: true,
         }),
         _ => Err(CheckFault::WrongMode(at)),
     }

@@ -46,6 +46,9 @@ pub enum Meant<'a> {
 pub struct Operand<'a> {
     pub at: At,
     pub is: Meant<'a>,
+    /// Whether all of it is known. Where it isn't, `is` has the right mode, and others stand for those of its parts that can't be
+    /// known: such an operand becomes no value.
+    pub known: bool,
 }
 
 /// The mode that is wanted of a value.

@@ -3,10 +3,13 @@
 ghost use Rattle.std.specs.Prelude.{◌≡◌, IfOk, Ok};
 ghost use Rattle.rt_modes.specs.declared.mode.Mode.{out-Mode};
 ghost use Rattle.rt_exprs.specs.Judging as spec;
-ghost use Rattle.rt_exprs.specs.Operands.{Found, seen, found_of};
-ghost use Rattle.rt_exprs.specs.Outcomes.{Outcome, Gives};
+ghost use Rattle.rt_exprs.specs.Operands.{Judged, seen, judged_of};
+ghost use Rattle.rt_exprs.specs.Outcomes.{Outcome, Gives, UnlessMemory};
 
-use crate::{Base, CheckFault, Meant, Operand, Wanted, array_at, base_of, both, fits, suits};
+use crate::suit::by_itself;
+use crate::{
+    Base, CheckFault, Meant, Operand, Wanted, array_at, base_of, both, fits, or_other, suits,
+};
 use rt_grammar::At;
 use rt_modes::Mode;
 use rt_syntax_exprs::{Op1, Op2};
@@ -82,18 +85,60 @@ pub fn monadic<'a>(
     op: Op1,
     operand: Result<Operand<'_>, CheckFault>,
 ) -> Result<Operand<'a>, CheckFault>
-    ensures { (t : Outcome Found) → Gives found_of operand.entry t → Gives found_of result (spec.monadic at op t) }
+    ensures { (t : Outcome Judged) → Gives judged_of operand.entry t → Gives judged_of result (spec.monadic at op t) }
 {
-    let operand = operand?;
+    match operand {
+        Ok(operand) => of_operand(alloc, at, op, operand),
+        Err(CheckFault::Unknown) => of_unknown(at, op),
+        Err(fault) => Err(fault),
+    }
+}
+
+/// The same where the operand isn't known: some operators give one mode, whatever their operand is.
+fn of_unknown<'a>(at: At, op: Op1) -> Result<Operand<'a>, CheckFault>
+    ensures { Gives judged_of result (spec.of_unknown at op) }
+{
+    match gives_always(op) {
+        None => Err(CheckFault::Unknown),
+        Some(base) => Ok(Operand {
+            at,
+            is: Meant::Computed(Value::Number(0), base),
+            known: false,
+        }),
+    }
+}
+
+/// The mode that a monadic operator gives, if it gives one alone.
+fn gives_always(op: Op1) -> Option<Base>
+    ensures { result ≡ spec.gives_always op }
+{
+    match op {
+        Op1::Not | Op1::Int | Op1::Length => Some(Base::Int),
+        Op1::Byte => Some(Base::Byte),
+        Op1::Frac => Some(Base::Frac),
+        Op1::Plus | Op1::Minus | Op1::Abs => None,
+    }
+}
+
+fn of_operand<'a>(
+    alloc: Global,
+    at: At,
+    op: Op1,
+    operand: Operand<'_>,
+) -> Result<Operand<'a>, CheckFault>
+    ensures { Gives judged_of result (spec.of_operand at op (judged_of operand.entry)) }
+{
     match made_monadic(op) {
         None => length(alloc, at, operand),
         Some(made) => {
             let base = base_in(&operand.is);
-            let value = suits(alloc, operand, Wanted::Basic(takes(op, base)))?;
+            let value = suits(alloc, operand, Wanted::Basic(takes(op, base)));
+            let (value, known) = or_other(value, Value::Number(0), true)?;
             let value = Value::Monadic(made, Boxed::new(alloc, value)?);
             Ok(Operand {
                 at,
                 is: Meant::Computed(value, gives(op, base)),
+                known,
             })
         }
     }
@@ -101,16 +146,21 @@ pub fn monadic<'a>(
 
 /// LENGTH of an operand.
 fn length<'a>(alloc: Global, at: At, operand: Operand<'_>) -> Result<Operand<'a>, CheckFault>
-    ensures { Gives found_of result (spec.length_of at (found_of operand.entry)) }
+    ensures { Gives judged_of result (spec.length_of at (judged_of operand.entry)) }
 {
-    let first = operand.at;
-    match array_in(alloc, operand.is)? {
+    let Operand {
+        at: first,
+        is,
+        known,
+    } = operand;
+    match array_in(alloc, is)? {
         None => Err(CheckFault::WrongMode(first)),
         Some(place) => {
             let value = Value::Length(Boxed::new(alloc, place)?);
             Ok(Operand {
                 at,
                 is: Meant::Computed(value, Base::Int),
+                known,
             })
         }
     }
@@ -200,14 +250,41 @@ pub fn dyadic<'a>(
     left: Result<Operand<'_>, CheckFault>,
     right: Result<Operand<'_>, CheckFault>,
 ) -> Result<Operand<'a>, CheckFault>
-    ensures { (l r : Outcome Found) → Gives found_of left.entry l → Gives found_of right.entry r → Gives found_of result (spec.dyadic at op l r) }
+    ensures { (l r : Outcome Judged) → Gives judged_of left.entry l → Gives judged_of right.entry r → Gives judged_of result (spec.dyadic at op l r) }
 {
     if is_of_int(op) {
         let int = Wanted::Basic(Base::Int);
         let operands = both(fits(alloc, left, int), fits(alloc, right, int));
         return computed(alloc, at, op, Base::Int, operands);
     }
-    by_left(alloc, at, op, left?, right)
+    match left {
+        Ok(left) => by_left(alloc, at, op, left, right),
+        Err(fault) => Err(fault.sooner(right_alone(alloc, op, right))),
+    }
+}
+
+/// The fault of a right operand whose left one has no mode that is known: the count of a shift is INT, another is judged by
+/// itself. Where none stands, that is what can't be known.
+fn right_alone(alloc: Global, op: Op2, right: Result<Operand<'_>, CheckFault>) -> CheckFault
+    ensures { (r : Outcome Judged) → Gives judged_of right.entry r → UnlessMemory result (result ≡ spec.right_alone op r) }
+{
+    if is_shift(op) {
+        match fits(alloc, right, Wanted::Basic(Base::Int)) {
+            Ok(_) => CheckFault::Unknown,
+            Err(fault) => fault,
+        }
+    } else {
+        by_itself(right)
+    }
+}
+
+fn is_shift(op: Op2) -> bool
+    ensures { result ≡ spec.is_shift op }
+{
+    match op {
+        Op2::Sll | Op2::Srl | Op2::Sla | Op2::Sra => true,
+        _ => false,
+    }
 }
 
 /// A dyadic operator whose left operand says what is wanted of both.
@@ -218,7 +295,7 @@ fn by_left<'a>(
     left: Operand<'_>,
     right: Result<Operand<'_>, CheckFault>,
 ) -> Result<Operand<'a>, CheckFault>
-    ensures { (r : Outcome Found) → Gives found_of right.entry r → Gives found_of result (spec.by_left at op (Ok (found_of left.entry)) r) }
+    ensures { (r : Outcome Judged) → Gives judged_of right.entry r → Gives judged_of result (spec.by_left at op (judged_of left.entry) r) }
 {
     let base = frac_or_int(base_in(&left.is));
     let x = suits(alloc, left, Wanted::Basic(base));
@@ -234,13 +311,15 @@ fn computed<'a>(
     base: Base,
     operands: Result<(Value, Value), CheckFault>,
 ) -> Result<Operand<'a>, CheckFault>
-    ensures { (t : Outcome (Value × Value)) → Gives (λ x. x) operands t → Gives found_of result (spec.computes at op base t) }
+    ensures { (t : Outcome (Value × Value)) → Gives (λ x. x) operands t → Gives judged_of result (spec.computes at op base t) }
 {
-    let (left, right) = operands?;
+    let others = (Value::Number(0), Value::Number(0));
+    let ((left, right), known) = or_other(operands, others, true)?;
     let left = Boxed::new(alloc, left)?;
     let right = Boxed::new(alloc, right)?;
     Ok(Operand {
         at,
         is: Meant::Computed(Value::Dyadic(made_dyadic(op, base), left, right), base),
+        known,
     })
 }

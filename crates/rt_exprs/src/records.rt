@@ -2,7 +2,7 @@
 
 ghost use Rattle.std.specs.Prelude.{◌≡◌, IfOk, OnOk, option_map, slice_get};
 ghost use Rattle.rt_exprs.specs.Indexed as spec;
-ghost use Rattle.rt_exprs.specs.Operands.{as_word, field_of};
+ghost use Rattle.rt_exprs.specs.Operands.{as_word, first_field};
 
 use indexmap::IndexMap;
 use rt_modes::{Field, Mode, ModeTable, RecordDef};
@@ -67,7 +67,7 @@ pub fn field_named<'a>(
     number: u16,
     name: &[u8],
 ) -> Option<(u16, &'a Mode)>
-    ensures { option_map (λ x. (x.0, x.1.now)) result ≡ field_of records.now.records number name.now }
+    ensures { option_map (λ x. (x.0, x.1.now)) result ≡ first_field records.now.records number name.now }
 {
     let record = usize::from(number);
     let definition = records.table.records.get(record)?;

@@ -1,6 +1,5 @@
 //! What names stand for.
 
-use crate::fault::CheckFault;
 use crate::records::IndexedRecords;
 use indexmap::{IndexMap, IndexSet};
 use rt_modes::Mode;
@@ -28,9 +27,10 @@ pub enum Meaning {
     Loop(u16),
     /// A label, by its number.
     Label(u16),
-    /// A brick, an item, a parameter or a local whose mode is unfit, by the fault of its declaration: an expression that names
-    /// it isn't judged, so it has this fault.
-    Unfit(CheckFault),
+    /// A procedure brick whose mode can't be known, since its heading is unfit.
+    UnknownProc,
+    /// An item, a parameter or a local whose mode can't be known, since the mode that is written for it is unfit.
+    Unknown,
 }
 
 /// The names of one level, in the order of declaration, and what they stand for.

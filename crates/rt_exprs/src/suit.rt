@@ -5,8 +5,8 @@ ghost use Rattle.rt_modes.specs.declared.mode.Mode.{out-Mode};
 ghost use Rattle.rt_exprs.specs.declared.fault.CheckFault.TheVariants as fault;
 ghost use Rattle.rt_exprs.specs.Modes.{is_byte, is_int, is_row, is_ref};
 ghost use Rattle.rt_exprs.specs.Operands as spec;
-ghost use Rattle.rt_exprs.specs.Operands.{Found, found_of, want_of};
-ghost use Rattle.rt_exprs.specs.Outcomes.{Outcome, Gives, or_fault};
+ghost use Rattle.rt_exprs.specs.Operands.{Judged, judged_of, want_of};
+ghost use Rattle.rt_exprs.specs.Outcomes.{Outcome, Gives, UnlessMemory, or_fault};
 
 use crate::fault::CheckFault;
 use crate::modes::{basic_becomes, becomes, is_byte, is_int, is_proc, is_ref, is_row, only_if};
@@ -17,9 +17,21 @@ use rt_tree_nodes::{Place, Value};
 use rt_words::Boxed;
 use std::alloc::Global;
 
-/// The value of an expression where a mode is wanted.
+/// The value of an expression where a mode is wanted; where it would be one, but isn't known, that can't be known.
 pub fn suits(alloc: Global, operand: Operand<'_>, wanted: Wanted<'_>) -> Result<Value, CheckFault>
-    ensures { Gives (λ v. v) result (spec.suits (found_of operand.entry) (want_of wanted.entry)) }
+    ensures { Gives (λ v. v) result (spec.suits_as (judged_of operand.entry) (want_of wanted.entry)) }
+{
+    let known = operand.known;
+    let value = suits_known(alloc, operand, wanted)?;
+    if known {
+        Ok(value)
+    } else {
+        Err(CheckFault::Unknown)
+    }
+}
+
+fn suits_known(alloc: Global, operand: Operand<'_>, wanted: Wanted<'_>) -> Result<Value, CheckFault>
+    ensures { Gives (λ v. v) result (spec.suits (judged_of operand.entry).found (want_of wanted.entry)) }
 {
     let at = operand.at;
     match operand.is {
@@ -45,10 +57,24 @@ pub fn fits(
     operand: Result<Operand<'_>, CheckFault>,
     wanted: Wanted<'_>,
 ) -> Result<Value, CheckFault>
-    ensures { (t : Outcome Found) → Gives found_of operand.entry t → Gives (λ v. v) result (spec.fits t (want_of wanted.entry)) }
+    ensures { (t : Outcome Judged) → Gives judged_of operand.entry t → Gives (λ v. v) result (spec.fits t (want_of wanted.entry)) }
 {
     let operand = operand?;
     suits(alloc, operand, wanted)
+}
+
+/// The fault of an operand of which no mode is known to be wanted, judged by itself; where none stands, that is what can't be
+/// known. A call without result fits no mode.
+pub fn by_itself(operand: Result<Operand<'_>, CheckFault>) -> CheckFault
+    ensures { (t : Outcome Judged) → Gives judged_of operand.entry t → UnlessMemory result (result ≡ spec.by_itself t) }
+{
+    match operand {
+        Ok(Operand { at, is, .. }) => match is {
+            Meant::Done(_) => CheckFault::WrongMode(at),
+            _ => CheckFault::Unknown,
+        },
+        Err(fault) => fault,
+    }
 }
 
 fn or_wrong(at: At, value: Option<Value>) -> Result<Value, CheckFault>

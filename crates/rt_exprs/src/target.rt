@@ -1,14 +1,15 @@
 //! Places that are assigned, and calls that stand alone.
 
-ghost use Rattle.std.specs.Prelude.{◌≡◌, IfOk, IfErr};
+ghost use Rattle.std.specs.Prelude.{◌≡◌, Option, IfOk, IfErr};
 ghost use Rattle.rt_modes.specs.declared.mode.Mode.{Mode};
 ghost use Rattle.rt_tree_nodes.specs.declared.value.Place.{Place};
 ghost use Rattle.rt_exprs.specs.Outcomes.{Settles, IsAnswered, IsAnsweredAs};
-ghost use Rattle.rt_exprs.specs.Fitting.{Assigns, NotAssigned, AssignsVal, NotAssignedVal, CallIs, NoCall};
+ghost use Rattle.rt_exprs.specs.Fitting.{AssignsAs, NotAssigned, AssignsValAs, NotAssignedVal, CallIs, NoCall};
 ghost use Rattle.std.specs.Option.{option_copied};
 ghost use Rattle.rt_modes.specs.declared.mode.Mode.{out-Mode};
+ghost use Rattle.rt_syntax_exprs.specs.declared.tree.Link.{out-Link};
 ghost use Rattle.rt_exprs.specs.Judging as spec;
-ghost use Rattle.rt_exprs.specs.Operands.{found_of};
+ghost use Rattle.rt_exprs.specs.Operands.{judged_of};
 ghost use Rattle.rt_exprs.specs.Outcomes.{Gives};
 
 use crate::expression::judge_chain;
@@ -20,7 +21,7 @@ use rt_syntax_exprs::{Chain, Link};
 use rt_tree::{Place, Value};
 use std::alloc::Global;
 
-/// The place that a chain assigns, and its mode.
+/// The place that a chain assigns, and its mode; the mode alone where the place can't be known.
 ///
 /// # Errors
 ///
@@ -29,9 +30,9 @@ pub fn fit_target<'a>(
     alloc: Global,
     chain: &Chain,
     scope: &Scope<'a>,
-) -> Result<(Place, &'a Mode), CheckFault>
-    ensures fits { IfOk result (λ x. Assigns scope.now chain.now (x.0, x.1.now)) }
-    ensures only { (x : Place × Mode) → Assigns scope.now chain.now x → IsAnsweredAs (λ y. (y.0, y.1.now)) x result }
+) -> Result<(Option<Place>, &'a Mode), CheckFault>
+    ensures fits { IfOk result (λ x. AssignsAs scope.now chain.now (x.0, x.1.now)) }
+    ensures only { (x : Option Place × Mode) → AssignsAs scope.now chain.now x → IsAnsweredAs (λ y. (y.0, y.1.now)) x result }
     ensures fault { IfErr result (Settles (NotAssigned scope.now chain.now)) }
     ensures value { Gives (λ x. (x.0, x.1.now)) result (spec.target scope.now chain.now) }
 {
@@ -42,7 +43,7 @@ fn target<'a>(
     alloc: Global,
     chain: &Chain,
     scope: &Scope<'a>,
-) -> Result<(Place, &'a Mode), CheckFault>
+) -> Result<(Option<Place>, &'a Mode), CheckFault>
     ensures { Gives (λ x. (x.0, x.1.now)) result (spec.target scope.now chain.now) }
 {
     if is_brick(find(scope, chain.name.as_slice()), chain.links.as_slice()) {
@@ -51,7 +52,7 @@ fn target<'a>(
     assigned(judge_chain(alloc, scope, chain)?)
 }
 
-/// The place that VAL, which stands at `at`, and a chain assign, and its mode.
+/// The place that VAL, which stands at `at`, and a chain assign, and its mode; the mode alone where the place can't be known.
 ///
 /// # Errors
 ///
@@ -61,9 +62,9 @@ pub fn fit_val_target<'a>(
     at: At,
     chain: &Chain,
     scope: &Scope<'a>,
-) -> Result<(Place, &'a Mode), CheckFault>
-    ensures fits { IfOk result (λ x. AssignsVal scope.now at chain.now (x.0, x.1.now)) }
-    ensures only { (x : Place × Mode) → AssignsVal scope.now at chain.now x → IsAnsweredAs (λ y. (y.0, y.1.now)) x result }
+) -> Result<(Option<Place>, &'a Mode), CheckFault>
+    ensures fits { IfOk result (λ x. AssignsValAs scope.now at chain.now (x.0, x.1.now)) }
+    ensures only { (x : Option Place × Mode) → AssignsValAs scope.now at chain.now x → IsAnsweredAs (λ y. (y.0, y.1.now)) x result }
     ensures fault { IfErr result (Settles (NotAssignedVal scope.now at chain.now)) }
     ensures value { Gives (λ x. (x.0, x.1.now)) result (spec.val_target scope.now at chain.now) }
 {
@@ -75,7 +76,7 @@ fn val_target<'a>(
     at: At,
     chain: &Chain,
     scope: &Scope<'a>,
-) -> Result<(Place, &'a Mode), CheckFault>
+) -> Result<(Option<Place>, &'a Mode), CheckFault>
     ensures { Gives (λ x. (x.0, x.1.now)) result (spec.val_target scope.now at chain.now) }
 {
     let operand = judge_chain(alloc, scope, chain);
@@ -99,11 +100,42 @@ pub fn fit_call(alloc: Global, chain: &Chain, scope: &Scope<'_>) -> Result<Value
 fn call_alone(alloc: Global, chain: &Chain, scope: &Scope<'_>) -> Result<Value, CheckFault>
     ensures { Gives (λ v. v) result (spec.alone scope.now chain.now) }
 {
-    let Operand { at, is } = judge_chain(alloc, scope, chain)?;
+    match judge_chain(alloc, scope, chain) {
+        Ok(operand) => call_of(operand),
+        Err(CheckFault::Unknown) if !ends_in_call(chain.links.as_slice()) => {
+            Err(CheckFault::WrongMode(chain.at))
+        }
+        Err(fault) => Err(fault),
+    }
+}
+
+fn call_of(operand: Operand<'_>) -> Result<Value, CheckFault>
+    ensures { Gives (λ v. v) result (spec.call_of (judged_of operand.entry)) }
+{
+    let Operand { at, is, known } = operand;
     match is {
-        Meant::Result(call, _) => Ok(call),
-        Meant::Done(call) => Ok(call),
+        Meant::Result(call, _) | Meant::Done(call) if known => Ok(call),
+        Meant::Result(_, _) | Meant::Done(_) => Err(CheckFault::Unknown),
         _ => Err(CheckFault::WrongMode(at)),
+    }
+}
+
+/// Whether the last link is parentheses, as that of every call is.
+fn ends_in_call(links: &[Link]) -> bool
+    ensures { result ≡ spec.ends_in_apply links.now }
+{
+    match links.get(links.len().saturating_sub(1)) {
+        Some(link) => is_apply(link),
+        None => false,
+    }
+}
+
+fn is_apply(link: &Link) -> bool
+    ensures { result ≡ spec.is_apply_link (out-Link link.now) }
+{
+    match link {
+        Link::Apply(_, _) => true,
+        Link::Dot(_, _) => false,
     }
 }
 
@@ -114,21 +146,22 @@ fn is_brick(meaning: Option<&Meaning>, links: &[Link]) -> bool
     match meaning {
         Some(Meaning::Data(_)) => links.is_empty(),
         Some(Meaning::Stack(_)) => links.is_empty(),
+        Some(Meaning::UnknownProc) => links.is_empty(),
         _ => false,
     }
 }
 
 /// The place that an operand assigns.
-fn assigned<'a>(operand: Operand<'a>) -> Result<(Place, &'a Mode), CheckFault>
-    ensures { Gives (λ x. (x.0, x.1.now)) result (spec.assigned (found_of operand.entry)) }
+fn assigned<'a>(operand: Operand<'a>) -> Result<(Option<Place>, &'a Mode), CheckFault>
+    ensures { Gives (λ x. (x.0, x.1.now)) result (spec.assigned (judged_of operand.entry)) }
 {
-    let Operand { at, is } = operand;
+    let Operand { at, is, known } = operand;
     match is {
         Meant::Place(place, mode, _) => {
             if is_whole(mode) {
                 return Err(CheckFault::NotAssignable(at));
             }
-            Ok((place, mode))
+            Ok((if known { Some(place) } else { None }, mode))
         }
         Meant::Loop(_) | Meant::Brick(_, _) => Err(CheckFault::NotAssignable(at)),
         _ => Err(CheckFault::WrongMode(at)),

@@ -12,7 +12,7 @@ use Rattle.rt_syntax_exprs.specs.declared.tree.Op1.TheVariants as op1
 use Rattle.rt_syntax_exprs.specs.declared.tree.Op2.{Op2}
 use Rattle.rt_syntax_exprs.specs.declared.tree.Op2.TheVariants as op2
 use Rattle.rt_modes.specs.declared.mode.Field.{Field}
-use Rattle.rt_modes.specs.declared.mode.Mode.{Mode}
+use Rattle.rt_modes.specs.declared.mode.Mode.{Mode, out-Mode}
 use Rattle.rt_modes.specs.declared.mode.Mode.TheOpen.{Mode-F}
 use Rattle.rt_modes.specs.declared.mode.Mode.TheVariants as mode
 use Rattle.rt_modes.specs.declared.mode.RecordDef.{RecordDef}
@@ -33,7 +33,7 @@ use Rattle.rt_exprs.specs.declared.scope.Meaning.TheVariants as meaning
 use Rattle.rt_exprs.specs.declared.scope.Scope.{Scope as Names}
 use Rattle.rt_exprs.specs.Modes.{Want, basic, want}
 use Rattle.rt_exprs.specs.Names.{find}
-use Rattle.rt_exprs.specs.Operands.{Is, number, text, brick, place, loop, result, computed, done, Found, named, field_from, as_word, field_in, field_of, suits_by}
+use Rattle.rt_exprs.specs.Operands.{Is, number, text, brick, place, loop, result, computed, done, Found, named, field_from, as_word, field_in, field_of, first_field, is_label, unless_label, if_known_mode, suits_by}
 use Rattle.rt_exprs.specs.Outcomes.{Outcome}
 use Rattle.rt_exprs.specs.Fitting as f
 use Rattle.rt_exprs.specs.Fitting.{IsBy, ChainIs, Leads, Follows, FitsBy, FitEach, string_at}
@@ -113,6 +113,14 @@ field_there records r name x (Some d) p e =
     let n = numbered_by d.fields x.0 x.1 (field_found 0 d.fields name x (as_word_is (field_from 0 d.fields name) x e)) in
     record { mode = rw p n; record_of = d; is = p; numbered = n }
 
+-- a field whose mode is known is the first of its name
+known_first : (o : Option (ℕ × Mode)) (x : ℕ × Mode) → if_known_mode o ≡ Some x → o ≡ Some x
+known_first None x e = absurd cc
+known_first (Some y) x e = by_label (is_label (out-Mode y.1)) e where
+  by_label : (b : Bool) → unless_label b y ≡ Some x → Some y ≡ Some x
+  by_label true q = absurd cc
+  by_label false q = q
+
 module _ (s : Names) (c : Scope) (agree : Agree s c) where
   -- the value that suits where a mode of one word is wanted, but for a number where BYTE is
   base_suits : (at : At) (is : Is) (b : Base) (x : Value) → IsTyped c is → suits_by at is (basic b) ≡ Ok x → suits (of_base b) (valued c x) ≡ true
@@ -170,7 +178,7 @@ module _ (s : Names) (c : Scope) (agree : Agree s c) where
   field_is : (p : Place) (r k : ℕ) (name : List ℕ) (st : Standing) (m : Mode) → RecordAt c p r st → field_of s.modes.now.records r name ≡ Some (k, m) → PlaceIs c (places.Field p k) m st
   field_is p r k name st m h e =
       let d : field_of c.records r name ≡ Some (k, m) = subst (λ (z : List RecordDef). field_of z r name ≡ Some (k, m)) agree.records e in
-      let g = field_there c.records r name (k, m) (slice_get c.records r) refl d in
+      let g = field_there c.records r name (k, m) (slice_get c.records r) refl (known_first (first_field c.records r name) (k, m) d) in
       field_typed c p r k st m h g.mode (item_of_all g.record_of.fields k m (agree.fields r g.record_of g.is) g.numbered)
 
   -- ---- by the rules

@@ -9,3 +9,4 @@ pub mod Targets
 pub mod Tests
 pub mod Judged
 pub mod Passing
+pub mod Exact

@@ -1,5 +1,5 @@
 -- What is assigned may be assigned, and what stands alone is a call.
-use Rattle.std.proofs.Common.{◌≡◌, Bool, true, false, Option, Some, None, Ok, Err, inl, inr, refl, ◌∙◌, subst, if◌then◌else◌}
+use Rattle.std.proofs.Common.{◌≡◌, Bool, true, false, Option, Some, None, Ok, Err, inl, inr, refl, ap, ◌∙◌, subst, if◌then◌else◌}
 use Rattle.rt_grammar.specs.declared.at.At.{At}
 use Rattle.rt_syntax_exprs.specs.declared.tree.Chain.{Chain}
 use Rattle.rt_modes.specs.declared.mode.Mode.{Mode, out-Mode}
@@ -15,7 +15,7 @@ use Rattle.rt_exprs.specs.Operands.{Is, place, result, done}
 use Rattle.rt_exprs.specs.Outcomes.{Outcome}
 use Rattle.rt_exprs.specs.Fitting as f
 use Rattle.rt_exprs.specs.Fitting.{Assigns, AssignsVal, CallIs}
-use Rattle.rt_exprs.specs.Judging.{assigned_is, called_is, is_whole}
+use Rattle.rt_exprs.specs.Judging.{place_if, assigned_is, called_is, is_whole}
 use Rattle.rt_exprs_laws.specs.Agreeing.{Agree, IsValue}
 use Rattle.rt_exprs_laws.specs.Laws.{MayBeAssigned}
 use Rattle.rt_exprs_laws.proofs.Standing.{part_is_value, is_read}
@@ -34,24 +34,33 @@ module _ (s : Names) (c : Scope) (agree : Agree s c) where
     | inr y ↦ found_assigned p m (Variable m) y.0 refl v
   ]
 
-  same_target : (a b : Place × Mode) (o : Outcome (Place × Mode)) → o ≡ Ok a → o ≡ Ok b → a ≡ b
-  same_target a b o e h = cc
+  abbrev place_in : Outcome (Option Place × Mode) → Option Place
+  place_in (Ok x) = x.0
+  place_in (Err g) = None
 
-  whole_split : (at : At) (p : Place) (m : Mode) (st : Standing) (x : Place × Mode) (b : Bool) → is_whole (out-Mode m) ≡ b → PlaceIs c p m st → (if b then Err (fault.NotAssignable at) else Ok (p, m)) ≡ Ok x → MayBeAssigned c x.0 x.1
-  whole_split at p m st x true w h e = absurd cc
-  whole_split at p m st x false w h e =
-      subst (λ (y : Place × Mode). MayBeAssigned c y.0 y.1) (same_target (p, m) x _ refl e) (place_assigned p m st h (part_is_value m (place_item c p m st h) w))
+  abbrev mode_in : Mode → Outcome (Option Place × Mode) → Mode
+  mode_in m (Ok x) = x.1
+  mode_in m (Err g) = m
 
-  assigned_typed : (at : At) (is : Is) (x : Place × Mode) → IsTyped c is → assigned_is at is ≡ Ok x → MayBeAssigned c x.0 x.1
-  assigned_typed at (place p m st) x h e = whole_split at p m st x (is_whole (out-Mode m)) refl h e
-  assigned_typed at _ x h e = absurd cc
+  same_place : (p q : Place) → Some p ≡ Some q → p ≡ q
+  same_place p q e = cc
+
+  whole_split : (at : At) (p q : Place) (m n : Mode) (st : Standing) (b : Bool) → is_whole (out-Mode m) ≡ b → PlaceIs c p m st → if◌then◌else◌ {A = Outcome (Option Place × Mode)} b (Err (fault.NotAssignable at)) (Ok (place_if true p, m)) ≡ Ok (Some q, n) → MayBeAssigned c q n
+  whole_split at p q m n st true w h e = absurd cc
+  whole_split at p q m n st false w h e =
+      subst (λ (y : Place). MayBeAssigned c y n) (same_place p q (ap (λ (o : Outcome (Option Place × Mode)). place_in o) e))
+      (subst (λ (z : Mode). MayBeAssigned c p z) (ap (λ (o : Outcome (Option Place × Mode)). mode_in m o) e) (place_assigned p m st h (part_is_value m (place_item c p m st h) w)))
+
+  assigned_typed : (at : At) (is : Is) (q : Place) (n : Mode) → IsTyped c is → assigned_is at true is ≡ Ok (Some q, n) → MayBeAssigned c q n
+  assigned_typed at (place p m st) q n h e = whole_split at p q m n st (is_whole (out-Mode m)) refl h e
+  assigned_typed at _ q n h e = absurd cc
 
   pub target_assigned : {h : Chain} {x : Place × Mode} → Assigns s h x → MayBeAssigned c x.0 x.1
-  target_assigned (f.assigns {f = g} {x = x} b h e) = assigned_typed g.at g.is x (chain_typed s c agree h) e
+  target_assigned (f.assigns {f = g} {p = p} {m = m} b h e) = assigned_typed g.at g.is p m (chain_typed s c agree h) e
 
   pub val_assigned : {at : At} {h : Chain} {x : Place × Mode} → AssignsVal s at h x → MayBeAssigned c x.0 x.1
-  val_assigned {at = at} (f.assigns_val {f = g} {p = p} {m = m} {x = x} h t e) =
-      assigned_typed at (place p m standing.Shared) x (subst (TargetTyped c) t (target_typed c g.is (chain_typed s c agree h))) e
+  val_assigned {at = at} (f.assigns_val {f = g} {p = p} {q = q} {m = m} {n = n} h t e) =
+      assigned_typed at (place p m standing.Shared) q n (subst (TargetTyped c) t (target_typed c g.is (chain_typed s c agree h))) e
 
   abbrev IsCall : Value → Type 0
   IsCall x = (r : Option Mode) × ((valued c x).call ≡ Some r)

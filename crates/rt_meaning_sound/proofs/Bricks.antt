@@ -40,9 +40,9 @@ use Rattle.rt_meaning_sound.proofs.Made.{made_words}
 module _ (s : Scope) where
   start_words : (o : Option Start) (g : Given) (prior : Texts) → AreBytes (in_any o prior) → words_if_started o ≡ true → AreWords (start_by s o g)
   start_words None (given.Mode m) prior b w = default_words (records s) m
-  start_words None (given.Unfit f) prior b w = zero_words
+  start_words None given.Unknown prior b w = zero_words
   start_words (Some x) (given.Mode m) prior b w = made_words (records s) (find s) s.strings.now.keys x prior m b w
-  start_words (Some x) (given.Unfit f) prior b w = zero_words
+  start_words (Some x) given.Unknown prior b w = zero_words
 
   items_words : (is : List DataItem) (ps : List Part) (prior : Texts) → AreBytes (in_items is prior) → all_so (map words_in_item is) ≡ true → AllByRecursion AreWords (items_starts s is ps)
   items_words [] ps prior b w = tt
@@ -90,7 +90,7 @@ BrickWords d = (fs : List Field) (ss : List DataStart) → d.sort ≡ brick_sort
 sort_words : (s : Sort) (f : Filling) (fs : List Field) (ss : List DataStart) → FillingWords f → sort_by s f ≡ brick_sort.Data fs ss → AllByRecursion AreWords ss
 sort_words (sort.Items ps) f fs ss h e = let same : f.starts ≡ ss = cc in subst (AllByRecursion AreWords) same h
 sort_words (sort.Procedure (given.Mode m)) f fs ss h e = absurd cc
-sort_words (sort.Procedure (given.Unfit g)) f fs ss h e = absurd cc
+sort_words (sort.Procedure given.Unknown) f fs ss h e = absurd cc
 sort_words (sort.Stack n) f fs ss h e = absurd cc
 
 pub filled_words : (hs : List Heading) (fs : List Filling) → AllByRecursion FillingWords fs → AllByRecursion BrickWords (filled hs fs)

@@ -74,11 +74,11 @@ module _ (s : Names) (c : Scope) (k : Started) (short : AllShort c) (locals : Lo
   -- ---- what is assigned, and calls that stand alone
 
   pub assigns_seen : {h : Chain} {x : Place × Mode} → Assigns s h x → words_in_chain h ≡ true → PlaceSeen k c x.0
-  assigns_seen (f.assigns {f = g} {x = x} b i e) w = assigned_seen c k g.at g.is x (chain_seen i w) e
+  assigns_seen (f.assigns {f = g} {p = p} {m = m} b i e) w = assigned_seen c k g.at g.is p m (chain_seen i w) e
 
   pub assigns_val_seen : {at : At} {h : Chain} {x : Place × Mode} → AssignsVal s at h x → words_in_chain h ≡ true → PlaceSeen k c x.0
-  assigns_val_seen {at = at} (f.assigns_val {f = g} {p = p} {m = m} {x = x} i t e) w =
-      assigned_seen c k at (place p m standing.Shared) x (subst (TargetSeen c k) t (target_seen c k g.is (chain_seen i w))) e
+  assigns_val_seen {at = at} (f.assigns_val {f = g} {p = p} {q = q} {m = m} {n = n} i t e) w =
+      assigned_seen c k at (place p m standing.Shared) q n (subst (TargetSeen c k) t (target_seen c k g.is (chain_seen i w))) e
 
   pub alone_seen : {h : Chain} {x : Value} → CallIs s h x → words_in_chain h ≡ true → ValueSeen k c x
   alone_seen (f.call_is {f = g} {x = x} i e) w = called_seen c k g.at g.is x (chain_seen i w) e

@@ -19,6 +19,7 @@ use Rattle.rt_tree_nodes.specs.declared.statement.Test as test_lemmas
 use Rattle.rt_tree_nodes.specs.declared.statement.Test.TheFolds.{fold_out-Test}
 use Rattle.rt_tree_nodes.specs.declared.statement.Test.TheOpen.{Test-F}
 use Rattle.rt_tree_nodes.specs.declared.statement.Test.TheVariants as tests
+use Rattle.rt_tree_nodes.specs.declared.value.Place.{Place}
 use Rattle.rt_tree_nodes.specs.declared.value.Value.{Value}
 use Rattle.rt_tree_nodes.specs.declared.value.Value.TheVariants as values
 use Rattle.rt_tree_nodes.specs.Scopes.{Scope}
@@ -33,12 +34,13 @@ use Rattle.rt_exprs.specs.Names.{find}
 use Rattle.rt_exprs.specs.Judging.{alone, target, val_target}
 use Rattle.rt_tree.specs.Statements.{starts_at_zero, call_tree, assigned_tree, step_tree, tested}
 use Rattle.rt_check_bodies.specs.declared.tally.Tally.{Tally}
-use Rattle.rt_check_bodies.specs.Parts.{noted_if, found_or, value_or, stat_or, test_or, label_or, labels_in}
-use Rattle.rt_check_bodies.specs.Sights.{Sight, scope_of, value_in, assignment_in, val_assignment_in, call_in, test_in, label_in, label_by}
+use Rattle.rt_check_bodies.specs.Parts.{noted_if, noted_known, found_or, value_or, stat_or, return_or, test_or, label_or, labels_in}
+use Rattle.rt_check_bodies.specs.Sights.{Sight, scope_of, value_in, assigning, assigned_in, assignment_in, val_assignment_in, call_in, test_in, label_in, label_by}
 use Rattle.rt_check_bodies.specs.declared.answer.Answer.{Answer}
 use Rattle.rt_check_bodies.specs.declared.answer.Answer.TheVariants as answer
 use Rattle.rt_check_bodies.specs.Statements.{JudgedStat, int_in, any_int_in, goto, switch, returned, return_of}
 use Rattle.rt_check_bodies_laws.proofs.Growing.{Growing, pre_none, grow_found, grow_goto, grow_switch, grow_labels_in}
+use Rattle.rt_check_bodies_laws.proofs.Certain.{label_certain}
 use Rattle.rt_check_bodies_laws.proofs.Sequences.{settled, Fine}
 use Rattle.rt_bricks_laws.specs.Numbers.{words_in_expr, words_in_any, words_in_chain, words_in_cond}
 use Rattle.rt_check_bodies_laws.proofs.Trees.{tree_number}
@@ -59,9 +61,13 @@ Zeroed c v = (i : ℕ) (l : Made_local) → slice_get c.locals i ≡ Some l → 
 
 -- ---- what is found, or what stands in its place
 
+pub known_labels : (g : CheckFault) (t : Tally) → (noted_known g t).labels ≡ t.labels
+known_labels fault.Unknown t = refl
+known_labels _ t = refl
+
 pub found_labels : {A : Type 0} (other : A) (o : Outcome A) (t : Tally) → (found_or other o t).1.labels ≡ t.labels
 found_labels other (Ok x) t = refl
-found_labels other (Err g) t = refl
+found_labels other (Err g) t = known_labels g t
 
 pub noted_labels : (b : Bool) (g : CheckFault) (t : Tally) → (noted_if b g t).labels ≡ t.labels
 noted_labels true g t = refl
@@ -78,6 +84,22 @@ bound (Err g) f y e = absurd cc
 
 ok_is : {A : Type 0} (a b : A) (o : Outcome A) → o ≡ Ok a → o ≡ Ok b → a ≡ b
 ok_is a b o e h = cc
+
+-- an assignment that is found: its place and its value are known
+record AssignedTo (s : Sight) (o : Outcome (Option Place × Mode)) (e : Expr) (x : Stat) : Type 0 where
+  to : Place
+  mode : Mode
+  value : Value
+  is : o ≡ Ok (Some to, mode)
+  gives : value_in s e mode ≡ Ok value
+  made : stats.Assign to value ≡ x
+
+assigned_by : (s : Sight) (o : Outcome (Option Place × Mode)) (e : Expr) (x : Stat) → assigned_in s o e ≡ Ok x → AssignedTo s o e x
+assigned_by s (Err g) e x h = absurd cc
+assigned_by s (Ok (None, m)) e x h = let y = bound (value_in s e m) (assigning None) x h in absurd (let bad = y.gives in cc)
+assigned_by s (Ok (Some p, m)) e x h =
+    let y = bound (value_in s e m) (assigning (Some p)) x h in
+    record { to = p; mode = m; value = y.value; is = refl; gives = y.is; made = ok_is (stats.Assign p y.value) x (Ok (stats.Assign p y.value)) refl y.gives }
 
 -- ---- trees of statements
 
@@ -120,7 +142,7 @@ labels_found s done [] t f = record { labels = []; gives = ap (λ (z : List ℕ)
 labels_found s done (n ∷ ns) t f =
     let u : ℕ × Tally = label_or (label_in s n) t in
     let none : u.1.faults ≡ [] = pre_none u.1.faults _ f (grow_labels_in s (done ++ u.0 ∷ []) ns u.1).faults in
-    let z = settled 0 (label_in s n) t none in
+    let z = settled 0 (label_in s n) t (label_certain s n) none in
     let moved : labels_in s done (n ∷ ns) t ≡ labels_in s (done ++ z.value ∷ []) ns t = ap (λ (y : ℕ × Tally). labels_in s (done ++ y.0 ∷ []) ns y.1) z.gives in
     let go = labels_found s (done ++ z.value ∷ []) ns t (sym (ap (λ (y : List ℕ × Tally). y.1.faults) moved) ∙ f) in
     record {
@@ -144,11 +166,22 @@ module _ (c : Scope) (a : Around c) where
   back_named : (at : Sets) (v : Started) → StmtNamed any_name at v (stat_of c (stats.Return None))
   back_named at v = rw made_back tt
 
-  found_good : (o : Sight → Outcome Stat) → ((at : Sets) (v : Started) (s : Sight) → Sees at c v s → (x : Stat) → o s ≡ Ok x → StmtNamed any_name at v (stat_of c x)) → StatGood (λ s. stat_or (o s)) 0
-  found_good o h = record {
-    grows = λ s t. grow_found (stats.Return None) (o s) t;
-    made = λ s t v f b z. made_alone t.labels _ (found_labels (stats.Return None) (o s) t) (λ at k. found_is (λ x. StmtNamed any_name at v (stat_of c x)) (stats.Return None) (o s) t (back_named at v) (h at v s k));
+  number_named : (v : Started) → TermNamed any_name v (valued c (values.Number 0)).tree
+  number_named v = rw tree_number (omega arith)
+
+  -- what stands for a statement that can't be known
+  other_named : (at : Sets) (v : Started) → StmtNamed any_name at v (stat_of c (stats.Call (values.Number 0)))
+  other_named at v = rw made_call (call_named at v (valued c (values.Number 0)) (number_named v))
+
+  found_or_good : (other : Stat) → ((at : Sets) (v : Started) → StmtNamed any_name at v (stat_of c other)) → (o : Sight → Outcome Stat)
+      → ((at : Sets) (v : Started) (s : Sight) → Sees at c v s → (x : Stat) → o s ≡ Ok x → StmtNamed any_name at v (stat_of c x)) → StatGood (λ s. found_or other (o s)) 0
+  found_or_good other named o h = record {
+    grows = λ s t. grow_found other (o s) t;
+    made = λ s t v f b z. made_alone t.labels _ (found_labels other (o s) t) (λ at k. found_is (λ x. StmtNamed any_name at v (stat_of c x)) other (o s) t (named at v) (h at v s k));
   }
+
+  found_good : (o : Sight → Outcome Stat) → ((at : Sets) (v : Started) (s : Sight) → Sees at c v s → (x : Stat) → o s ≡ Ok x → StmtNamed any_name at v (stat_of c x)) → StatGood (λ s. stat_or (o s)) 0
+  found_good o h = found_or_good (stats.Call (values.Number 0)) other_named o h
 
   pub call_good : (h : Chain) → words_in_chain h ≡ true → StatGood (λ s. stat_or (call_in s h)) 0
   call_good h w = found_good (λ s. call_in s h)
@@ -160,27 +193,25 @@ module _ (c : Scope) (a : Around c) where
   pub assign_good : (h : Chain) (e : Expr) → words_in_chain h && words_in_expr e ≡ true → StatGood (λ s. stat_or (assignment_in s h e)) 0
   assign_good h e w = found_good (λ s. assignment_in s h e)
       (λ at v s k x q.
-      let z = bound (target (scope_of s) h) (λ p. value_in s e p.1 >>= λ y. Ok (stats.Assign p.0 y)) x q in
-      let y = bound (value_in s e z.value.1) (λ y. Ok (stats.Assign z.value.0 y)) x z.gives in
-      subst (λ (w : Stat). StmtNamed any_name at v (stat_of c w)) (ok_is (stats.Assign z.value.0 y.value) x (Ok (stats.Assign z.value.0 y.value)) refl y.gives)
-      (rw made_assign (assigned_named at v (placed c z.value.0) (valued c y.value).tree (target_judged c a at v s k h z.value (left_of (words_in_chain h) (words_in_expr e) w) z.is)
-      (value_judged c a at v s k e z.value.1 y.value (right_of (words_in_chain h) (words_in_expr e) w) y.is))))
+      let z = assigned_by s (target (scope_of s) h) e x q in
+      subst (λ (w : Stat). StmtNamed any_name at v (stat_of c w)) z.made
+      (rw made_assign (assigned_named at v (placed c z.to) (valued c z.value).tree (target_judged c a at v s k h (z.to, z.mode) (left_of (words_in_chain h) (words_in_expr e) w) z.is)
+      (value_judged c a at v s k e z.mode z.value (right_of (words_in_chain h) (words_in_expr e) w) z.gives))))
 
   pub assign_val_good : (place : At) (h : Chain) (e : Expr) → words_in_chain h && words_in_expr e ≡ true → StatGood (λ s. stat_or (val_assignment_in s place h e)) 0
   assign_val_good place h e w = found_good (λ s. val_assignment_in s place h e)
       (λ at v s k x q.
-      let z = bound (val_target (scope_of s) place h) (λ p. value_in s e p.1 >>= λ y. Ok (stats.Assign p.0 y)) x q in
-      let y = bound (value_in s e z.value.1) (λ y. Ok (stats.Assign z.value.0 y)) x z.gives in
-      subst (λ (w : Stat). StmtNamed any_name at v (stat_of c w)) (ok_is (stats.Assign z.value.0 y.value) x (Ok (stats.Assign z.value.0 y.value)) refl y.gives)
-      (rw made_assign (assigned_named at v (placed c z.value.0) (valued c y.value).tree (val_judged c a at v s k place h z.value (left_of (words_in_chain h) (words_in_expr e) w) z.is)
-      (value_judged c a at v s k e z.value.1 y.value (right_of (words_in_chain h) (words_in_expr e) w) y.is))))
+      let z = assigned_by s (val_target (scope_of s) place h) e x q in
+      subst (λ (w : Stat). StmtNamed any_name at v (stat_of c w)) z.made
+      (rw made_assign (assigned_named at v (placed c z.to) (valued c z.value).tree (val_judged c a at v s k place h (z.to, z.mode) (left_of (words_in_chain h) (words_in_expr e) w) z.is)
+      (value_judged c a at v s k e z.mode z.value (right_of (words_in_chain h) (words_in_expr e) w) z.gives))))
 
   -- ---- RETURN
 
   bare_return : (at : Sets) (v : Started) (r : Answer) (s : Sight) (place : At) (x : Stat) → returned r s None place ≡ Ok x → StmtNamed any_name at v (stat_of c x)
   bare_return at v answer.Nothing s place x e = subst (λ (w : Stat). StmtNamed any_name at v (stat_of c w)) (ok_is (stats.Return None) x (Ok (stats.Return None)) refl e) (back_named at v)
   bare_return at v (answer.Wanted m) s place x e = absurd cc
-  bare_return at v answer.Unfit s place x e = subst (λ (w : Stat). StmtNamed any_name at v (stat_of c w)) (ok_is (stats.Return None) x (Ok (stats.Return None)) refl e) (back_named at v)
+  bare_return at v answer.Unknown s place x e = subst (λ (w : Stat). StmtNamed any_name at v (stat_of c w)) (ok_is (stats.Return None) x (Ok (stats.Return None)) refl e) (back_named at v)
 
   returned_value : (o : Outcome Value) (x : Stat) → return_of o ≡ Ok x → (y : Value) × (o ≡ Ok y) × (stats.Return (Some y) ≡ x)
   returned_value (Ok y) x e = (y, refl, ok_is (stats.Return (Some y)) x (Ok (stats.Return (Some y))) refl e)
@@ -192,18 +223,15 @@ module _ (c : Scope) (a : Around c) where
       subst (λ (w : Stat). StmtNamed any_name at v (stat_of c w)) z.2 (rw made_return (value_judged c a at v s k e m z.0 w z.1))
 
   value_return : (at : Sets) (v : Started) (r : Answer) (s : Sight) → Sees at c v s → (e : Expr) → words_in_expr e ≡ true → (place : At) (x : Stat) → returned r s (Some e) place ≡ Ok x → StmtNamed any_name at v (stat_of c x)
-  value_return at v answer.Nothing s k e w place x h = given_back at v s k e w mode.Label x h
+  value_return at v answer.Nothing s k e w place x h = absurd cc
   value_return at v (answer.Wanted m) s k e w place x h = given_back at v s k e w m x h
-  value_return at v answer.Unfit s k e w place x h = subst (λ (w : Stat). StmtNamed any_name at v (stat_of c w)) (ok_is (stats.Return None) x (Ok (stats.Return None)) refl h) (back_named at v)
+  value_return at v answer.Unknown s k e w place x h = absurd cc
 
-  pub return_good : (r : Answer) (e : Option Expr) (place : At) → words_in_any e ≡ true → StatGood (λ s. stat_or (returned r s e place)) 0
-  return_good r None place w = found_good (λ s. returned r s None place) (λ at v s k x e. bare_return at v r s place x e)
-  return_good r (Some e) place w = found_good (λ s. returned r s (Some e) place) (λ at v s k x h. value_return at v r s k e w place x h)
+  pub return_good : (r : Answer) (e : Option Expr) (place : At) → words_in_any e ≡ true → StatGood (λ s. return_or (returned r s e place)) 0
+  return_good r None place w = found_or_good (stats.Return None) back_named (λ s. returned r s None place) (λ at v s k x e. bare_return at v r s place x e)
+  return_good r (Some e) place w = found_or_good (stats.Return None) back_named (λ s. returned r s (Some e) place) (λ at v s k x h. value_return at v r s k e w place x h)
 
   -- ---- values and conditions in parts
-
-  number_named : (v : Started) → TermNamed any_name v (valued c (values.Number 0)).tree
-  number_named v = rw tree_number (omega arith)
 
   pub value_named : (at : Sets) (v : Started) (s : Sight) → Sees at c v s → (e : Expr) → words_in_expr e ≡ true → (m : Mode) (t : Tally) → TermNamed any_name v (valued c (value_or (value_in s e m) t).0).tree
   value_named at v s k e w m t = found_is (λ x. TermNamed any_name v (valued c x).tree) (values.Number 0) (value_in s e m) t (number_named v) (λ x h. value_judged c a at v s k e m x w h)
@@ -239,7 +267,7 @@ module _ (c : Scope) (a : Around c) where
   goto_good n = record {
     grows = λ s t. grow_goto s n t;
     made = λ s t v f b q.
-        let z = settled 0 (label_in s n) t f.none in
+        let z = settled 0 (label_in s n) t (label_certain s n) f.none in
         made_alone t.labels _ (found_labels 0 (label_in s n) t) (λ at k.
         subst (λ (y : ℕ × Tally). StmtNamed any_name at v (stat_of c (stats.Goto y.0))) (sym z.gives) (rw made_goto (label_named at c v s n z.value k z.is)));
   }

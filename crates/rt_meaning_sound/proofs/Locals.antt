@@ -21,8 +21,8 @@ use Rattle.rt_exprs.specs.Outcomes.{Outcome}
 use Rattle.rt_tree.specs.Statements.{starts_at_zero, start_tree, starts_tree}
 use Rattle.rt_check_bodies.specs.declared.tally.Tally.{Tally}
 use Rattle.rt_check_bodies.specs.Parts.{noted_if, next_local, mode_or}
-use Rattle.rt_check_bodies.specs.Sights.{Sight, holds, innermost, value_in, mode_in}
-use Rattle.rt_check_bodies.specs.Statements.{Declared, start_in, local_fit, local_more, locals_more, line_more, declarations}
+use Rattle.rt_check_bodies.specs.Sights.{Sight, holds, innermost, value_in, mode_in, alone_in}
+use Rattle.rt_check_bodies.specs.Statements.{Declared, start_alone, start_in, local_fit, local_more, locals_more, line_more, declarations}
 use Rattle.rt_bricks_laws.specs.Bodies.{all}
 use Rattle.rt_check_bodies_laws.proofs.Accepted.{local_value}
 use Rattle.rt_check_bodies_laws.proofs.Growing.{Pre, grow_placed, grow_locals, grow_declarations}
@@ -33,7 +33,7 @@ use Rattle.rt_bricks_laws.proofs.AllLists.{left_of, right_of}
 use Rattle.rt_meaning_laws.specs.Trees.{Started, Within, and_local}
 use Rattle.rt_meaning_laws.specs.Named.{any_name, SeqNamed}
 use Rattle.rt_meaning_laws.proofs.Locals.{within_self, within_all, within_more}
-use Rattle.rt_meaning_sound.proofs.Good.{Zeroed, found_labels, value_named, noted_labels}
+use Rattle.rt_meaning_sound.proofs.Good.{Zeroed, found_labels, known_labels, value_named, noted_labels}
 use Rattle.rt_meaning_sound.proofs.Judged.{Around}
 use Rattle.rt_meaning_sound.proofs.Seen.{Sees, sees_named, sees_more}
 use Rattle.rt_meaning_sound.proofs.Sets.{Sets}
@@ -112,15 +112,19 @@ module _ (c : Scope) (a : Around c) where
     sees = λ at k. g.sees at (h.sees at k);
   }
 
+  alone_labels : (s : Sight) (e : Option Expr) (t : Tally) → (start_alone s e t).labels ≡ t.labels
+  alone_labels s None t = refl
+  alone_labels s (Some e) t = known_labels (alone_in s e) t
+
   local_made : (m : Outcome Mode) (d : Declared) (n : Local) (t : Tally) (v : Started) → words_in_local n ≡ true → Fine c (local_more m d n t).1 → Zeroed c v → DeclaredMade v d t (local_more m d n t)
   local_made (Err g) d n t v w f z = record {
     starts = [];
     is = sym (append-nil d.starts);
-    labels = noted_labels (holds (innermost d.sight.levels) n.name.name) (fault.DeclaredTwice n.name.at) t;
+    labels = noted_labels (holds (innermost d.sight.levels) n.name.name) (fault.DeclaredTwice n.name.at) (start_alone d.sight n.start t) ∙ alone_labels d.sight n.start t;
     after = v;
     more = within_self v;
     named = λ at q k p. p;
-    sees = λ at k. sees_named at c v d.sight n.name.name (meaning.Unfit g) k (tt, tt);
+    sees = λ at k. sees_named at c v d.sight n.name.name meaning.Unknown k (tt, tt);
   }
   local_made (Ok m) d n t v w f z =
       let u : Option Value × Tally = start_in d.sight n.name m n.start t in

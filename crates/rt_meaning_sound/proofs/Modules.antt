@@ -16,7 +16,6 @@ use Rattle.rt_tree_nodes.specs.declared.brick.ProcBody.{ProcBody}
 use Rattle.rt_exprs.specs.Names.{find}
 use Rattle.rt_pieces.specs.declared.item.Item.{Item}
 use Rattle.rt_check_declared.specs.declared.site.Site.TheVariants as site
-use Rattle.rt_check_declared.specs.Unfit.{unfit_record}
 use Rattle.rt_check_declared.specs.Written.{Names}
 use Rattle.rt_check_bodies.specs.Sights.{Sight}
 use Rattle.rt_check_bodies.specs.Sights.{scope_of as names_of}
@@ -24,7 +23,7 @@ use Rattle.rt_check_bodies.specs.Procedures.{procedure, faults, nothing_yet}
 use Rattle.rt_check_declared.specs.Names.{scope}
 use Rattle.rt_check_declared.specs.Names.{bricks_in as brick_count}
 use Rattle.rt_check_module.specs.Levels.{module_names}
-use Rattle.rt_check_declared.specs.Fields.{fit_fields, mode_faults}
+use Rattle.rt_check_declared.specs.Fields.{written_fields, mode_faults}
 use Rattle.rt_check_declared.specs.declared.bricks.Heading.{Heading}
 use Rattle.rt_check_declared.specs.declared.bricks.Sort.{Sort}
 use Rattle.rt_check_declared.specs.declared.bricks.Sort.TheVariants as sort
@@ -46,7 +45,7 @@ use Rattle.rt_check_bodies_laws.proofs.Modules.{fitting_modes}
 use Rattle.rt_check_bodies_laws.proofs.Procedures.{few_locals}
 use Rattle.rt_check_bodies_laws.proofs.StandingBodies.{locals_stand}
 use Rattle.rt_check_module.specs.declared.filling.Filling.{Filling}
-use Rattle.rt_check_module.specs.Tree.{Faults, nothing, first, sort_by, filled, gathered, fillings_in, headings, records, sight, tree, Somewhere, modes_seen}
+use Rattle.rt_check_module.specs.Tree.{nothing, first, sort_by, filled, gathered, fillings_in, headings, records, sight, tree, Somewhere, modes_seen}
 use Rattle.rt_check_module.specs.Faults.{inside}
 use Rattle.rt_check_module.specs.Faults.{Inside}
 use Rattle.rt_check_module_laws.specs.Modules.{IsText, IsFaultless}
@@ -54,12 +53,11 @@ use Rattle.rt_check_module_laws.proofs.Below.{names_below}
 use Rattle.rt_check_module_laws.proofs.Bricks.{drop_joined, filled_joined, headings_counted, fillings_counted}
 use Rattle.rt_check_module_laws.proofs.Headings.{is_headed}
 use Rattle.rt_check_module_laws.proofs.Heads.{modes_of, heads_are}
-use Rattle.rt_check_module_laws.proofs.Holding.{nothing_in, no_brick_faults, all_declared, names_are_held}
+use Rattle.rt_check_module_laws.proofs.Holding.{no_brick_faults, names_are_held}
 use Rattle.rt_check_module_laws.proofs.Known.{scope_once, scope_below}
 use Rattle.rt_check_module_laws.proofs.Levels.{SameModes, same_modes}
 use Rattle.rt_bricks_laws.proofs.AllLists.{right_of, first_nothing, second_nothing, all_joined, all_get}
-use Rattle.rt_check_module_laws.proofs.Records.{record_count, modes_are_records, text_shallow, none_stands}
-use Rattle.rt_check_module_laws.proofs.Unfit.{mode_free}
+use Rattle.rt_check_module_laws.proofs.Records.{record_count, modes_are_records, text_shallow, nothing_in}
 use Rattle.rt_check_module_laws.proofs.Whole.{NoneInside, none_inside, module_fits}
 use Rattle.rt_meaning_laws.specs.Modules.{BodyNamed}
 use Rattle.rt_meaning_sound.specs.Procedures.{IsSound, IsHeld, ModulesAreNamed}
@@ -69,12 +67,12 @@ use Rattle.rt_meaning_sound.proofs.Procedures.{procedures_named}
 same_modes_of : (ms ws : List Mode) (r o : Option Mode) (l : Mode-F Mode) → l ≡ Mode-F.Proc ms r → l ≡ Mode-F.Proc ws o → (ms ≡ ws) × (r ≡ o)
 same_modes_of ms ws r o l e h = let a : ms ≡ ws = cc in let b : r ≡ o = cc in (a, b)
 
-module _ (items : List Item) (m : Module) (us : Faults) (text : IsText items m) (fine : IsFaultless m.declarations us) where
+module _ (items : List Item) (m : Module) (text : IsText items m) (fine : IsFaultless m.declarations) where
   abbrev ds : List Declaration
   ds = m.declarations
 
   abbrev s : Sight
-  s = sight ds us
+  s = sight ds
 
   abbrev names : Names
   names = modes_seen ds
@@ -86,13 +84,10 @@ module _ (items : List Item) (m : Module) (us : Faults) (text : IsText items m) 
   known = modes_are_records ds
 
   same : SameModes names (find (names_of s))
-  same = same_modes (headings ds us) (scope ds) (scope_once ds)
-
-  free : (x : Mode) → unfit_record us x ≡ None
-  free = mode_free us (none_stands ds us fine)
+  same = same_modes (headings ds) (scope ds) (scope_once ds)
 
   name_records : NamesRecords n s
-  name_records = (subst (λ (k : ℕ). AllByRecursion (λ x. IsRecord k x.1) (module_names (headings ds us) (scope ds))) (sym (record_count ds)) (names_below _ (headings ds us) (scope ds) (scope_below ds)), tt)
+  name_records = (subst (λ (k : ℕ). AllByRecursion (λ x. IsRecord k x.1) (module_names (headings ds) (scope ds))) (sym (record_count ds)) (names_below _ (headings ds) (scope ds) (scope_below ds)), tt)
 
   -- what the grammar gives of a declaration in which no fault stands
   record Read (d : Declaration) : Type 0 where
@@ -107,7 +102,7 @@ module _ (items : List Item) (m : Module) (us : Faults) (text : IsText items m) 
   -- ---- one brick
 
   abbrev SortNamed : BrickSort → Type 0
-  SortNamed x = (w : Mode) (body : ProcBody) (ws : List Mode) (o : Option Mode) → x ≡ brick_sort.Proc w (Some body) → out-Mode w ≡ Mode-F.Proc ws o → BodyNamed (tree m us) body ws o
+  SortNamed x = (w : Mode) (body : ProcBody) (ws : List Mode) (o : Option Mode) → x ≡ brick_sort.Proc w (Some body) → out-Mode w ≡ Mode-F.Proc ws o → BodyNamed (tree m) body ws o
 
   abbrev BrickNamed : Brick → Type 0
   BrickNamed b = SortNamed b.sort
@@ -115,29 +110,29 @@ module _ (items : List Item) (m : Module) (us : Faults) (text : IsText items m) 
   proc_named : (q : ProcedureBrick) → Read (declares.Procedure q) → SortNamed (sort_by (sort.Procedure (heading_of names q)) (record { body = Some (procedure s q); starts = [] }))
   proc_named q k w body ws o e h =
       let z = is_headed names n known q k.none k.shallow in
-      let ms : List Mode = modes_of (fit_fields names site.Variable q.fields) in
+      let ms : List Mode = modes_of (written_fields names site.Variable q.fields) in
       let whole : brick_sort.Proc (mode.Proc ms z.result) (Some (procedure s q)) ≡ brick_sort.Proc w (Some body) = ap (λ (g : Given). sort_by (sort.Procedure g) (record { body = Some (procedure s q); starts = [] })) (sym z.is) ∙ e in
       let is_mode : mode.Proc ms z.result ≡ w = cc in
       let is_body : procedure s q ≡ body = cc in
       let layer : out-Mode (mode.Proc ms z.result) ≡ Mode-F.Proc ms z.result = search mode_lemmas.the_lemmas in
       let same_so = same_modes_of ms ws z.result o (out-Mode (mode.Proc ms z.result)) layer (ap out-Mode is_mode ∙ h) in
       let fields_words : Bool = all (map words_in_fields q.fields) in
-      let held : IsHeld (tree m us) s q = record {
-        outside = λ ls seen. names_are_held items m us ls seen text fine;
-        modes = fitting_modes (tree m us) (module_fits items m us text fine);
+      let held : IsHeld (tree m) s q = record {
+        outside = λ ls seen. names_are_held items m ls seen text fine;
+        modes = fitting_modes (tree m) (module_fits items m text fine);
         few = few_locals s q (record { broad = k.broad; parts = k.items_are.0; few = k.items_are.1 });
         standing = locals_stand n s q k.shallow name_records;
       } in
       let sound : IsSound q = record { words = right_of (words_in_result q.result) (words_in_body q.body) (right_of fields_words (words_in_result q.result && words_in_body q.body) k.words); labels = k.labels } in
-      let heads = heads_are names s same free [] q.fields nothing_yet (first_nothing (mode_faults names site.Variable q.fields) (result_faults names q.name q.result) k.none) in
+      let heads = heads_are names s same [] q.fields nothing_yet (first_nothing (mode_faults names site.Variable q.fields) (result_faults names q.name q.result) k.none) in
       let none : faults s q ≡ [] = nothing_in (faults s q) k.fits in
-      subst (λ (b : ProcBody). BodyNamed (tree m us) b ws o) is_body
-      (subst (λ (y : List Mode). BodyNamed (tree m us) (procedure s q) y o) same_so.0
-      (subst (λ (y : Option Mode). BodyNamed (tree m us) (procedure s q) ms y) same_so.1 (procedures_named (tree m us) s q ms z.result sound held none heads)))
+      subst (λ (b : ProcBody). BodyNamed (tree m) b ws o) is_body
+      (subst (λ (y : List Mode). BodyNamed (tree m) (procedure s q) y o) same_so.0
+      (subst (λ (y : Option Mode). BodyNamed (tree m) (procedure s q) ms y) same_so.1 (procedures_named (tree m) s q ms z.result sound held none heads)))
 
   no_body : (x : Sort) → SortNamed (sort_by x nothing)
   no_body (sort.Procedure (given.Mode y)) w body ws o e h = absurd cc
-  no_body (sort.Procedure (given.Unfit g)) w body ws o e h = absurd cc
+  no_body (sort.Procedure given.Unknown) w body ws o e h = absurd cc
   no_body (sort.Items ps) w body ws o e h = absurd cc
   no_body (sort.Stack k) w body ws o e h = absurd cc
 
@@ -176,16 +171,12 @@ module _ (items : List Item) (m : Module) (us : Faults) (text : IsText items m) 
     all_read es (second_nothing (faults_in names x) (brick_faults names es) e) a.1 b.1 f.1 g.1 h.1 j.1,
   )
 
-  declared_is : headings ds us ≡ bricks names ds
-  declared_is = all_declared ds us fine
-
-  bricks_named : AllByRecursion BrickNamed (tree m us).bricks
+  bricks_named : AllByRecursion BrickNamed (tree m).bricks
   bricks_named =
-      subst (λ (hs : List Heading). AllByRecursion BrickNamed (filled hs (gathered (fillings_in s) hs ds))) (sym declared_is)
-      (all_named ds (all_read ds (no_brick_faults ds us fine) (text_shallow items m text) (bodies_broad items m text.derived) (items_counted items m text.few text.derived) (labels_few items m text.few text.derived)
+      all_named ds (all_read ds (no_brick_faults ds fine) (text_shallow items m text) (bodies_broad items m text.derived) (items_counted items m text.few text.derived) (labels_few items m text.few text.derived)
       (numbers_are_words items m text.range text.derived)
-      (none_inside (records ds) s names ds (λ g k. fine.none g (inside (subst (λ (hs : List Heading). Somewhere (Inside s (records ds) g) hs ds) (sym declared_is) k))))))
+      (none_inside (records ds) s names ds (λ g k. fine g (inside k))))
 
 pub modules_named : ModulesAreNamed
-modules_named items m us text fine k d e w body ws o is h =
-    all_get (BrickNamed items m us text fine) (tree m us).bricks k d (bricks_named items m us text fine) e w body ws o is h
+modules_named items m text fine k d e w body ws o is h =
+    all_get (BrickNamed items m text fine) (tree m).bricks k d (bricks_named items m text fine) e w body ws o is h

@@ -179,12 +179,19 @@ module _ (c : Scope) (k : Started) where
 
   -- ---- what is assigned, and what is called
 
-  pub assigned_seen : (at : At) (is : Is) (x : Place × Mode) → IsSeen is → assigned_is at is ≡ Ok x → PlaceSeen k c x.0
-  assigned_seen at (place p m st) x h e = by_whole (is_whole (out-Mode m)) e where
-    by_whole : (b : Bool) → (if b then Err (fault.NotAssignable at) else Ok (p, m)) ≡ Ok x → PlaceSeen k c x.0
+  abbrev SomeSeen : Option Place → Type 0
+  SomeSeen None = ⊥
+  SomeSeen (Some p) = PlaceSeen k c p
+
+  pub assigned_seen : (at : At) (is : Is) (q : Place) (n : Mode) → IsSeen is → assigned_is at true is ≡ Ok (Some q, n) → PlaceSeen k c q
+  assigned_seen at (place p m st) q n h e = by_whole (is_whole (out-Mode m)) e where
+    to : Option Place × Mode
+    to = (Some p, m)
+
+    by_whole : (b : Bool) → (if b then Err (fault.NotAssignable at) else Ok to) ≡ Ok (Some q, n) → PlaceSeen k c q
     by_whole true g = absurd cc
-    by_whole false g = subst (λ (y : Place × Mode). PlaceSeen k c y.0) (ok_is (p, m) x _ refl g) h
-  assigned_seen at _ x h e = absurd cc
+    by_whole false g = subst (λ (y : Option Place × Mode). SomeSeen y.0) (ok_is to (Some q, n) _ refl g) h
+  assigned_seen at _ q n h e = absurd cc
 
   pub called_seen : (at : At) (is : Is) (x : Value) → IsSeen is → called_is at is ≡ Ok x → ValueSeen k c x
   called_seen at (result v m) x h e = value_so v x (ok_is v x _ refl e) h

@@ -70,7 +70,7 @@ answer_labels s place (Some w) t = mode_labels (mode_in s place w) t
 -- the first locals, so many of them, have a value
 module _ (at : Sets) (c : Scope) (small : length c.locals < 65536) (standing : list_all (local_stands (length c.records)) c.locals ≡ true) (v : Started) (count : ℕ) (firsts : (i : ℕ) → i < count → v i ≡ true) where
   named_seen : (l : Names) (n : Ident) (m : Outcome Mode) (t : Tally) → LevelHas (IsSeen at c v) l → Fine c (named l n m t).1 → length (named l n m t).1.locals ≤ count → LevelHas (IsSeen at c v) (named l n m t).0
-  named_seen l n (Err g) t h f b = declared_has (IsSeen at c v) n.name (meaning.Unfit g) l h (tt, tt)
+  named_seen l n (Err g) t h f b = declared_has (IsSeen at c v) n.name meaning.Unknown l h (tt, tt)
   named_seen l n (Ok m) t h f b =
       let here : (named l n (Ok m) t).1.locals ≡ t.locals ++ made.Variable m ∷ [] = ap (λ (x : List Made). x ++ made.Variable m ∷ []) (noted_locals (holds l n.name) (fault.DeclaredTwice n.at) t) in
       let there = pre_get t.locals (made.Variable m) c.locals (record { more = f.known.more; is = f.known.is ∙ ap (λ (x : List Made). x ++ f.known.more) here }) in
@@ -113,7 +113,8 @@ module _ (at : Sets) (c : Scope) (v : Started) (seen : Seen) where
   no_local (meaning.Item b i m) h k = tt
   no_local (meaning.SvcItem b i m) h k = tt
   no_local (meaning.Svc i m) h k = tt
-  no_local (meaning.Unfit g) h k = tt
+  no_local meaning.UnknownProc h k = tt
+  no_local meaning.Unknown h k = tt
 
   outer_level : (ls : List Made) (l : Names) → LevelHolds (with_locals c ls) seen l → LevelHolds (with_locals c []) nowhere l → LevelHas (IsSeen at (with_locals c ls) v) l
   outer_level ls [] h k = tt
@@ -172,7 +173,7 @@ module _ (p : ModuleParts) (s : Sight) (b : ProcedureBrick) (ms : List Mode) (r 
       let good = body_made inner around answers.0 b.body sound.words in
       let fine_answers : Fine inner answers.1 = fine_before inner (good.grows (within heads.0 s) answers.1) fine_read in
       let fine_heads : Fine inner heads.1 = fine_before inner (grow_answer s b.at b.result heads.1) fine_answers in
-      let first : answers.1.labels ≡ 0 = answer_labels s b.at b.result heads.1 ∙ (parameters_fit inner held.few held.standing s [] b.fields nowhere nothing_yet tt fine_heads).labels in
+      let first : answers.1.labels ≡ 0 = answer_labels s b.at b.result heads.1 ∙ (parameters_fit inner held.few held.standing s [] b.fields nowhere nothing_yet tt tt fine_heads).labels in
       let go = good.made (within heads.0 s) answers.1 begins fine_read (omega (arith, sound.labels, first)) zeroed in
       let labels : Sets = slice_get go.sets in
       let out : Holds inner s nowhere = held.outside made_so.locals nowhere in

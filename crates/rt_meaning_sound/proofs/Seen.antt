@@ -102,7 +102,8 @@ module _ (at : Sets) where
   more_seen v w h (meaning.Item b i m) e = tt
   more_seen v w h (meaning.SvcItem b i m) e = tt
   more_seen v w h (meaning.Svc k m) e = tt
-  more_seen v w h (meaning.Unfit g) e = tt
+  more_seen v w h meaning.UnknownProc e = tt
+  more_seen v w h meaning.Unknown e = tt
 
   module _ (c : Scope) where
     abbrev pub IsSeen : Started → Meaning → Type 0
@@ -152,7 +153,8 @@ module _ (at : Sets) where
     local_seen v (meaning.Item b i m) e = tt
     local_seen v (meaning.SvcItem b i m) e = tt
     local_seen v (meaning.Svc k m) e = tt
-    local_seen v (meaning.Unfit g) e = tt
+    local_seen v meaning.UnknownProc e = tt
+    local_seen v meaning.Unknown e = tt
 
     pub locals_seen : (v : Started) (s : Sight) → Sees v s → LocalsSeen (scope_of s) v
     locals_seen v s h n m e = local_seen v m (is_seen v s h n m e)

@@ -16,7 +16,7 @@ use Rattle.rt_items.specs.Ranges.{ItemsAreInRange}
 use Rattle.rt_tree.specs.Modules.{every_node_fits}
 use Rattle.rt_tree.specs.Stored.{module_of}
 use Rattle.rt_tree.specs.Opened.{IsTable, IsField}
-use Rattle.rt_check_module.specs.Tree.{Faults, tree}
+use Rattle.rt_check_module.specs.Tree.{tree}
 use Rattle.rt_check_module_laws.specs.Modules.{IsText, IsFaultless, ModulesFit as NodesFit}
 use Rattle.rt_meaning_laws.specs.Modules.{BodyNamed}
 use Rattle.rt_meaning_laws.specs.Starting.{NumbersFit}
@@ -32,11 +32,10 @@ use Rattle.rt_meaning_sound.proofs.Few.{few_items}
 record IsKnown (p : ModuleParts) : Type 0 where
   items : List Item
   source : Module
-  faults : Faults
   text : IsText items source
   spelled : AllByRecursion IsSpelled items
-  faultless : IsFaultless source.declarations faults
-  is : p ≡ tree source faults
+  faultless : IsFaultless source.declarations
+  is : p ≡ tree source
 
 module _ (ranged : ItemsAreInRange) (words : NamesAreWords) (starts : StartsAreWords) (strings : StringsAreBytes) (bodies : ModulesAreNamed) (nodes : NodesFit) (tabled : RecordsAreTables) (fields : DataItemsAreFields) (opened : FullDataOpen) where
   known : (p : ModuleParts) → IsOfText p → IsKnown p
@@ -46,30 +45,29 @@ module _ (ranged : ItemsAreInRange) (words : NamesAreWords) (starts : StartsAreW
       record {
         items = s.items;
         source = t.source;
-        faults = t.typed.led;
         text = record { few = few_items o.text s.items s.read; range = ranged o.text s.items o.bytes s.read; derived = s.derived };
         spelled = words o.text s.items s.read;
-        faultless = record { led = t.typed.are_led; none = t.typed.fit };
+        faultless = t.typed.fit;
         is = t.typed.is;
       }
 
   module _ (p : ModuleParts) (k : IsKnown p) where
     numbers : NumbersFit p
-    numbers = subst NumbersFit (sym k.is) (record { starts = starts k.items k.source k.faults k.text; bytes = strings k.items k.source k.faults k.text })
+    numbers = subst NumbersFit (sym k.is) (record { starts = starts k.items k.source k.text; bytes = strings k.items k.source k.text })
 
     node : every_node_fits p ≡ true
-    node = ap every_node_fits k.is ∙ nodes k.items k.source k.faults k.text k.faultless
+    node = ap every_node_fits k.is ∙ nodes k.items k.source k.text k.faultless
 
     table : IsTable p.modes
-    table = subst (λ (q : ModuleParts). IsTable q.modes) (sym k.is) (tabled k.items k.source k.faults k.text k.spelled k.faultless)
+    table = subst (λ (q : ModuleParts). IsTable q.modes) (sym k.is) (tabled k.items k.source k.text k.spelled k.faultless)
 
     named : (b : ℕ) (d : Brick) → slice_get p.bricks b ≡ Some d → (w : Mode) (body : ProcBody) (ws : List Mode) (o : Option Mode) → d.sort ≡ sort.Proc w (Some body) → out-Mode w ≡ Mode-F.Proc ws o → BodyNamed p body ws o
     named b d at w body ws o is opens =
-        subst (λ (q : ModuleParts). BodyNamed q body ws o) (sym k.is) (bodies k.items k.source k.faults k.text k.faultless b d (ap (λ (q : ModuleParts). slice_get q.bricks b) (sym k.is) ∙ at) w body ws o is opens)
+        subst (λ (q : ModuleParts). BodyNamed q body ws o) (sym k.is) (bodies k.items k.source k.text k.faultless b d (ap (λ (q : ModuleParts). slice_get q.bricks b) (sym k.is) ∙ at) w body ws o is opens)
 
     are_fields : (b : ℕ) (d : Brick) (fs : List Field) (ss : List DataStart) → slice_get p.bricks b ≡ Some d → d.sort ≡ sort.Data fs ss → is_svc d.kind ≡ false → AllByRecursion (IsField p.modes) fs
     are_fields b d fs ss at is own =
-        subst (λ (q : ModuleParts). AllByRecursion (IsField q.modes) fs) (sym k.is) (fields k.items k.source k.faults k.text k.spelled k.faultless b d fs ss (ap (λ (q : ModuleParts). slice_get q.bricks b) (sym k.is) ∙ at) is own)
+        subst (λ (q : ModuleParts). AllByRecursion (IsField q.modes) fs) (sym k.is) (fields k.items k.source k.text k.spelled k.faultless b d fs ss (ap (λ (q : ModuleParts). slice_get q.bricks b) (sym k.is) ∙ at) is own)
 
   pub texts_make_systems : TextsMakeSystems
   texts_make_systems ps texts matched =

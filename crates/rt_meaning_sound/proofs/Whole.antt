@@ -15,15 +15,15 @@ use Rattle.rt_meaning_sound.proofs.Strings.{strings_bytes}
 use Rattle.rt_meaning_sound.proofs.NumberWords.{IsWord, all_words, of_one}
 
 pub starts_are_words : StartsAreWords
-starts_are_words items m us t b d fs ss is sort n c =
+starts_are_words items m t b d fs ss is sort n c =
     let ds : List Declaration = m.declarations in
     let short : AllByRecursion ShortIn ds = texts_short items m t in
     let words : AllByRecursion NumbersIn ds = numbers_are_words items m t.range t.derived in
-    let bricks : AllByRecursion BrickWords (tree_bricks ds us) = filled_words (headings ds us) (fillings ds us) (gathered_words (sight ds us) (headings ds us) ds short words) in
-    of_one IsWord (joined (map numbers_in ss)) n (all_words ss (all_get BrickWords (tree_bricks ds us) b d bricks is fs ss sort)) c
+    let bricks : AllByRecursion BrickWords (tree_bricks ds) = filled_words (headings ds) (fillings ds) (gathered_words (sight ds) (headings ds) ds short words) in
+    of_one IsWord (joined (map numbers_in ss)) n (all_words ss (all_get BrickWords (tree_bricks ds) b d bricks is fs ss sort)) c
 
 pub strings_are_bytes : StringsAreBytes
-strings_are_bytes items m us t k text is =
+strings_are_bytes items m t k text is =
     let ds : List Declaration = m.declarations in
     let short : AllByRecursion ShortIn ds = texts_short items m t in
-    all_get (AllByRecursion IsByte) (map (λ x. x.1) (texts ds us)) k text (strings_bytes (texts ds us) (all_short (records ds).records [] (headings ds us) ds short tt)) is
+    all_get (AllByRecursion IsByte) (map (λ x. x.1) (texts ds)) k text (strings_bytes (texts ds) (all_short (records ds).records [] (headings ds) ds short tt)) is

@@ -21,7 +21,7 @@ use Rattle.rt_check_bodies_laws.specs.Held.{Holds}
 use Rattle.rt_bricks_laws.specs.Bodies.{labels_in_body}
 use Rattle.rt_bricks_laws.specs.Numbers.{words_in_body}
 use Rattle.rt_check_bodies_laws.specs.Modes.{ModesStand}
-use Rattle.rt_check_module.specs.Tree.{Faults, tree}
+use Rattle.rt_check_module.specs.Tree.{tree}
 use Rattle.rt_check_module_laws.specs.Modules.{IsText, IsFaultless}
 use Rattle.rt_meaning_laws.specs.Modules.{BodyNamed}
 
@@ -52,6 +52,6 @@ ProceduresAreNamed = (p : ModuleParts) (s : Sight) (b : ProcedureBrick) (ms : Li
 
 -- In a module in which no fault stands each procedure with a body does.
 abbrev pub ModulesAreNamed : Type 0
-ModulesAreNamed = (items : List TextItem) (m : Module) (us : Faults) → IsText items m → IsFaultless m.declarations us
-    → (k : ℕ) (d : Brick) → slice_get (tree m us).bricks k ≡ Some d
-    → (w : Mode) (body : ProcBody) (ws : List Mode) (o : Option Mode) → d.sort ≡ sort.Proc w (Some body) → out-Mode w ≡ Mode-F.Proc ws o → BodyNamed (tree m us) body ws o
+ModulesAreNamed = (items : List TextItem) (m : Module) → IsText items m → IsFaultless m.declarations
+    → (k : ℕ) (d : Brick) → slice_get (tree m).bricks k ≡ Some d
+    → (w : Mode) (body : ProcBody) (ws : List Mode) (o : Option Mode) → d.sort ≡ sort.Proc w (Some body) → out-Mode w ≡ Mode-F.Proc ws o → BodyNamed (tree m) body ws o

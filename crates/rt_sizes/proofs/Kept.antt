@@ -166,16 +166,15 @@ module _ (f : ℕ → Option ℕ) (s : List (Option Size)) (up : (k n : ℕ) →
 
   -- ---- passing
 
-  kept_passes_by : (e i j : ℕ) (fs : List Field) → (passes_in f fs e (i + 1) ≡ Some j → kept.passes_in s fs (counted e) (i + 1) ≡ Some j) → (if nat_le e most then passes_in f fs e (i + 1) else option_map (λ _. i) (fields_end f fs e)) ≡ Some j
-      → (if is_within (counted e) then kept.passes_in s fs (counted e) (i + 1) else option_map (λ _. i) (kept.fields_end s fs (counted e))) ≡ Some j
-  kept_passes_by e i j fs go is = chosen (nat_le e most) (is_within (counted e)) (within_counted e) j (passes_in f fs e (i + 1)) (option_map (λ _. i) (fields_end f fs e)) (kept.passes_in s fs (counted e) (i + 1))
-      (option_map (λ _. i) (kept.fields_end s fs (counted e))) go (kept_number i j (fields_end f fs e) (kept.fields_end s fs (counted e)) (kept_fields_end fs e)) is
+  kept_passes_by : (e i j : ℕ) (fs : List Field) → (passes_in f fs e (i + 1) ≡ Some j → kept.passes_in s fs (counted e) (i + 1) ≡ Some j) → (if nat_le e most then passes_in f fs e (i + 1) else Some i) ≡ Some j
+      → (if is_within (counted e) then kept.passes_in s fs (counted e) (i + 1) else Some i) ≡ Some j
+  kept_passes_by e i j fs go is = chosen (nat_le e most) (is_within (counted e)) (within_counted e) j (passes_in f fs e (i + 1)) (Some i) (kept.passes_in s fs (counted e) (i + 1)) (Some i) go (λ q. q) is
 
   pub kept_passes : (fs : List Field) (n i j : ℕ) → passes_in f fs n i ≡ Some j → kept.passes_in s fs (counted n) i ≡ Some j
   kept_passes [] n i j e = absurd cc
   kept_passes (field ∷ fs) n i j e =
-      kept_then (λ x. x) (field_end f field n) (kept.field_end s field (counted n)) (λ x. if nat_le x most then passes_in f fs x (i + 1) else option_map (λ _. i) (fields_end f fs x))
-      (λ x. if is_within x then kept.passes_in s fs x (i + 1) else option_map (λ _. i) (kept.fields_end s fs x)) j (kept_field_end field n)
+      kept_then (λ x. x) (field_end f field n) (kept.field_end s field (counted n)) (λ x. if nat_le x most then passes_in f fs x (i + 1) else Some i)
+      (λ x. if is_within x then kept.passes_in s fs x (i + 1) else Some i) j (kept_field_end field n)
       (λ x. kept_passes_by x i j fs (kept_passes fs x (i + 1) j)) e
 
 -- ---- what is kept is found
@@ -241,13 +240,12 @@ module _ (f : ℕ → Option ℕ) (s : List (Option Size)) (down : (k : ℕ) (x 
   -- ---- passing
 
   found_passes_by : (e i j : ℕ) (fs : List Field) → (kept.passes_in s fs (counted e) (i + 1) ≡ Some j → passes_in f fs e (i + 1) ≡ Some j)
-      → (if is_within (counted e) then kept.passes_in s fs (counted e) (i + 1) else option_map (λ _. i) (kept.fields_end s fs (counted e))) ≡ Some j
-      → (if nat_le e most then passes_in f fs e (i + 1) else option_map (λ _. i) (fields_end f fs e)) ≡ Some j
-  found_passes_by e i j fs go is = chosen (is_within (counted e)) (nat_le e most) (sym (within_counted e)) j (kept.passes_in s fs (counted e) (i + 1)) (option_map (λ _. i) (kept.fields_end s fs (counted e)))
-      (passes_in f fs e (i + 1)) (option_map (λ _. i) (fields_end f fs e)) go (found_number i j (fields_end f fs e) (kept.fields_end s fs (counted e)) (found_fields_end fs e)) is
+      → (if is_within (counted e) then kept.passes_in s fs (counted e) (i + 1) else Some i) ≡ Some j
+      → (if nat_le e most then passes_in f fs e (i + 1) else Some i) ≡ Some j
+  found_passes_by e i j fs go is = chosen (is_within (counted e)) (nat_le e most) (sym (within_counted e)) j (kept.passes_in s fs (counted e) (i + 1)) (Some i) (passes_in f fs e (i + 1)) (Some i) go (λ q. q) is
 
   pub found_passes : (fs : List Field) (n i j : ℕ) → kept.passes_in s fs (counted n) i ≡ Some j → passes_in f fs n i ≡ Some j
   found_passes [] n i j e = absurd cc
   found_passes (field ∷ fs) n i j e =
-      found_go (field_end f field n) (kept.field_end s field (counted n)) (λ x. if nat_le x most then passes_in f fs x (i + 1) else option_map (λ _. i) (fields_end f fs x))
-      (λ x. if is_within x then kept.passes_in s fs x (i + 1) else option_map (λ _. i) (kept.fields_end s fs x)) j (found_field_end field n) (λ x. found_passes_by x i j fs (found_passes fs x (i + 1) j)) e
+      found_go (field_end f field n) (kept.field_end s field (counted n)) (λ x. if nat_le x most then passes_in f fs x (i + 1) else Some i)
+      (λ x. if is_within x then kept.passes_in s fs x (i + 1) else Some i) j (found_field_end field n) (λ x. found_passes_by x i j fs (found_passes fs x (i + 1) j)) e

@@ -42,21 +42,21 @@ set_kept (m ∷ ms) zero (suc j) e = e
 set_kept (m ∷ ms) (suc s) zero e = e
 set_kept (m ∷ ms) (suc s) (suc j) e = set_kept ms s j e
 
-set_from : (ms : List Bool) (s j : ℕ) → Marked (slice_set ms s true) j → Marked ms j ⊎ (j ≡ s)
+pub set_from : (ms : List Bool) (s j : ℕ) → Marked (slice_set ms s true) j → Marked ms j ⊎ (j ≡ s)
 set_from [] s j e = inl e
 set_from (m ∷ ms) zero zero e = inr refl
 set_from (m ∷ ms) zero (suc j) e = inl e
 set_from (m ∷ ms) (suc s) zero e = inl e
 set_from (m ∷ ms) (suc s) (suc j) e = elim (set_from ms s j e) [ inl h ↦ inl h | inr h ↦ inr (ap suc h) ]
 
-set_count : (ms : List Bool) (s : ℕ) → slice_get ms s ≡ Some false → unmarked (slice_set ms s true) + 1 ≡ unmarked ms
+pub set_count : (ms : List Bool) (s : ℕ) → slice_get ms s ≡ Some false → unmarked (slice_set ms s true) + 1 ≡ unmarked ms
 set_count [] s e = absurd cc
 set_count (false ∷ ms) zero e = omega arith
 set_count (true ∷ ms) zero e = absurd cc
 set_count (false ∷ ms) (suc s) e = let h = set_count ms s e in omega arith
 set_count (true ∷ ms) (suc s) e = set_count ms s e
 
-set_long : (ms : List Bool) (s : ℕ) → length (slice_set ms s true) ≡ length ms
+pub set_long : (ms : List Bool) (s : ℕ) → length (slice_set ms s true) ≡ length ms
 set_long [] s = refl
 set_long (m ∷ ms) zero = refl
 set_long (m ∷ ms) (suc s) = ap suc (set_long ms s)
@@ -70,7 +70,7 @@ no_mark [] s l e = omega arith
 no_mark (m ∷ ms) zero l e = cc
 no_mark (m ∷ ms) (suc s) l e = no_mark ms s (omega arith) e
 
-none_marked : (n s : ℕ) → Marked (replicate n false) s → ⊥
+pub none_marked : (n s : ℕ) → Marked (replicate n false) s → ⊥
 none_marked zero s e = cc
 none_marked (suc n) zero e = cc
 none_marked (suc n) (suc s) e = none_marked n s e

@@ -67,7 +67,7 @@ module _ (sizes : List (Option Size)) where
 
   abbrev pub passes_in : List Field → Size → ℕ → Option ℕ
   passes_in [] n i = None
-  passes_in (f ∷ fs) n i = and_then (field_end f n) (λ e. if is_within e then passes_in fs e (i + 1) else option_map (λ _. i) (fields_end fs e))
+  passes_in (f ∷ fs) n i = and_then (field_end f n) (λ e. if is_within e then passes_in fs e (i + 1) else Some i)
 
   abbrev pub offset_by : Option Field → Option Size → Option Size
   offset_by None e = None

@@ -52,11 +52,11 @@ module _ (record_size : ℕ → Option ℕ) where
   record_layer None = None
   record_layer (Some fs) = option_map even (fields_end fs 0)
 
-  -- Which of some fields, counted from i, is the one with which they pass the most, where they stand behind n bytes and all have a
-  -- size.
+  -- Which of some fields, counted from i, is the one with which they pass the most, where they stand behind n bytes, and it and all before
+  -- it have a size.
   abbrev pub passes_in : List Field → ℕ → ℕ → Option ℕ
   passes_in [] n i = None
-  passes_in (f ∷ fs) n i = and_then (field_end f n) (λ e. if nat_le e most then passes_in fs e (i + 1) else option_map (λ _. i) (fields_end fs e))
+  passes_in (f ∷ fs) n i = and_then (field_end f n) (λ e. if nat_le e most then passes_in fs e (i + 1) else Some i)
 
   abbrev pub offset_by : Option Field → Option ℕ → Option ℕ
   offset_by None e = None

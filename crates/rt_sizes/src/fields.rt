@@ -10,7 +10,7 @@ use crate::size::Size;
 use crate::value::{field_end, fields_end};
 use rt_modes::Field;
 
-/// Which field is the one with which fields that all have a size pass 57,344 bytes.
+/// Which field is the one with which fields pass 57,344 bytes, where it and all before it have a size.
 pub fn passing_field(sizes: &[Option<Size>], fields: &[Field]) -> Option<usize>
     // It is one with which they pass.
     ensures passes { (t : Table) → AreSizes t sizes.now → (i : ℕ) → result ≡ Some i → PassWith t fields.now i }
@@ -27,7 +27,6 @@ fn passes_in(sizes: &[Option<Size>], fields: &[Field]) -> Option<usize>
     for number in 0..fields.len() {
         end = field_end(sizes, &fields[number], end)?;
         if !end.is_within() {
-            fields_end(sizes, &fields[number + 1..], end)?;
             return Some(number);
         }
     }

@@ -35,6 +35,7 @@ form_numbered k = if nat_eq k 1 then Some form.Label else if nat_eq k 2 then Som
 -- what is told of a fault of the checker
 abbrev pub check_told : CheckFault → Option Told
 check_told check.Memory = None
+check_told check.Unknown = None
 check_told (check.UnknownName at) = Some (told.Text text.UnknownName at.line)
 check_told (check.WrongMode at) = Some (told.Text text.WrongMode at.line)
 check_told (check.NotAssignable at) = Some (told.Text text.NotAssignable at.line)

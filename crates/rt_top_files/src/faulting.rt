@@ -54,7 +54,7 @@ fn check_told(fault: CheckFault) -> Option<Told>
     ensures { result ≡ spec.check_told fault }
 {
     let (fault, at) = match fault {
-        CheckFault::Memory => return None,
+        CheckFault::Memory | CheckFault::Unknown => return None,
         CheckFault::UnknownName(at) => (TextFault::UnknownName, at),
         CheckFault::WrongMode(at) => (TextFault::WrongMode, at),
         CheckFault::NotAssignable(at) => (TextFault::NotAssignable, at),

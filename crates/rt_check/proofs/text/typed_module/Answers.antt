@@ -29,8 +29,8 @@ returns-in_err-check_module-clause-only c = λ t small is.
     let found = c.in_ok-source.ensures.only is.source (subst (λ (xs : List Item). Derives xs is.source) (sym (c.as_slice.ensures ∙ same)) s.derived) in
     let typed = typed_as m is.source t found is.typed in
     let derived = subst (λ (xs : List Item). Derives xs m) c.as_slice.ensures c.in_ok-source.ensures.found in
-    no_tree t (tree m typed.led) c.from_residual-in_err-check_module.result p.0 c.in_err-check_module.field-0.0 p.1 p.2
-    (c.in_err-check_module.ensures.only typed.led (is_derived c.args.text.now small c.in_ok-read.read c.in_ok-read.ensures.found c.in_ok-read.ensures.limit m derived) typed.are_led typed.fit)
+    no_tree t (tree m) c.from_residual-in_err-check_module.result p.0 c.in_err-check_module.field-0.0 p.1 p.2
+    (c.in_err-check_module.ensures.only (is_derived c.args.text.now small c.in_ok-read.read c.in_ok-read.ensures.found c.in_ok-read.ensures.limit m derived) typed.fit)
 
 pub returns-in_err-check_module-clause-fault : goal.returns-in_err-check_module-clause-fault
 returns-in_err-check_module-clause-fault c = λ small.
@@ -65,5 +65,5 @@ returns-clause-only c = λ t small is.
     let found = c.in_ok-source.ensures.only is.source (subst (λ (xs : List Item). Derives xs is.source) (sym (c.as_slice.ensures ∙ same)) s.derived) in
     let typed = typed_as m is.source t found is.typed in
     let derived = subst (λ (xs : List Item). Derives xs m) c.as_slice.ensures c.in_ok-source.ensures.found in
-    a_tree t (tree m typed.led) c.in_ok-check_module.field-0 typed.is
-    (c.in_ok-check_module.ensures.only typed.led (is_derived c.args.text.now small c.in_ok-read.read c.in_ok-read.ensures.found c.in_ok-read.ensures.limit m derived) typed.are_led typed.fit)
+    a_tree t (tree m) c.in_ok-check_module.field-0 typed.is
+    (c.in_ok-check_module.ensures.only (is_derived c.args.text.now small c.in_ok-read.read c.in_ok-read.ensures.found c.in_ok-read.ensures.limit m derived) typed.fit)

@@ -1,20 +1,19 @@
-use Rattle.std.proofs.Common.{◌≡◌, ◌⊎◌, [], ◌∷◌, Option, None, map, sym, ap, ◌∙◌, subst}
+use Rattle.std.proofs.Common.{◌≡◌, ◌⊎◌, [], ◌∷◌, Option, None, sym, ap, ◌∙◌, subst}
 use Rattle.rt_check_declared.specs.Names.{name_faults, scope}
 use Rattle.rt_check_declared.specs.Bricks.{bricks, brick_faults}
 use Rattle.rt_check_module.specs.Levels.{mode_names}
-use Rattle.rt_check_module.specs.Settled.{settled}
 use Rattle.rt_modes.specs.declared.mode.ModeTable.{ModeTable}
 use Rattle.rt_exprs.specs.declared.fault.CheckFault.{CheckFault}
 use Rattle.rt_exprs.specs.Names.{find_in}
-use Rattle.rt_check_declared.specs.Records.{AllCount, Counts, record_modes, table}
+use Rattle.rt_check_declared.specs.Records.{Counts, table}
 use Rattle.rt_check_declared.specs.Records.{Stands as StandsInModes}
 use Rattle.rt_sizes.specs.Capped.{AreSizes}
 use Rattle.rt_check_declared.specs.Verdicts.{IsIn, with_faults}
 use Rattle.rt_check_declared.specs.Written.{Names}
-use Rattle.rt_check_module.specs.Tree.{Faults, modes_seen}
+use Rattle.rt_check_module.specs.Tree.{modes_seen}
 use Rattle.rt_check_module.specs.Scenes.{StandsOutside}
-use Rattle.rt_check_module.proofs.Joined.{gathered_counts, either_counts}
-use Rattle.rt_check_module.proofs.Seeing.{all_seen, all_led}
+use Rattle.rt_check_declared.proofs.Counted.{gathered_counts, either_counts}
+use Rattle.rt_check_module.proofs.Seeing.{all_seen}
 use Rattle.rt_check_module.proofs.scene.read_scene.Goals as goal
 
 pub returns-clause-records : goal.returns-clause-records
@@ -27,18 +26,10 @@ returns-clause-sizes c =
     let seen : find_in (c.in_ok-mode_level.field-0 ∷ []) ≡ modes_seen c.args.declarations.now = all_seen c.in_ok-mode_level.field-0 (mode_names (scope c.args.declarations.now)) (c.in_ok-mode_level.ensures ∙ ap mode_names c.in_ok-names.ensures.names) in
     subst (λ (n : Names). AreSizes (table n c.args.declarations.now) c.in_ok-records.records.sizes) seen c.in_ok-records.ensures.sizes
 
-pub returns-clause-led : goal.returns-clause-led
-returns-clause-led c =
-    let seen : find_in (c.in_ok-mode_level.field-0 ∷ []) ≡ modes_seen c.args.declarations.now = all_seen c.in_ok-mode_level.field-0 (mode_names (scope c.args.declarations.now)) (c.in_ok-mode_level.ensures ∙ ap mode_names c.in_ok-names.ensures.names) in
-    all_led c.args.declarations.now (find_in (c.in_ok-mode_level.field-0 ∷ [])) c.as_slice.result.now c.as_slice-2.result.now c.in_ok-unfit.unfit seen
-    (subst (λ (us : Faults). AllCount (find_in (c.in_ok-mode_level.field-0 ∷ [])) (table (find_in (c.in_ok-mode_level.field-0 ∷ [])) c.args.declarations.now) (record_modes c.args.declarations.now) us) (sym c.as_slice-2.ensures) c.in_ok-records.ensures.unfit)
-    (c.as_slice.ensures ∙ c.in_ok-records.ensures.records) c.in_ok-unfit.ensures
-
 pub returns-clause-bricks : goal.returns-clause-bricks
 returns-clause-bricks c =
     let seen : find_in (c.in_ok-mode_level.field-0 ∷ []) ≡ modes_seen c.args.declarations.now = all_seen c.in_ok-mode_level.field-0 (mode_names (scope c.args.declarations.now)) (c.in_ok-mode_level.ensures ∙ ap mode_names c.in_ok-names.ensures.names) in
-    c.in_ok-bricks-2.ensures ∙ ap (λ (us : Faults). map (settled us) c.in_ok-bricks.bricks.bricks) c.as_slice-3.ensures
-    ∙ ap (map (settled c.in_ok-unfit.unfit)) (c.in_ok-bricks.ensures.bricks ∙ ap (λ (n : Names). bricks n c.args.declarations.now) seen)
+    c.in_ok-bricks.ensures.bricks ∙ ap (λ (n : Names). bricks n c.args.declarations.now) seen
 
 pub returns-clause-fault : goal.returns-clause-fault
 returns-clause-fault c =

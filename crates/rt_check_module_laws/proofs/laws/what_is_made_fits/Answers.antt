@@ -12,4 +12,4 @@ pub returns-clause-parts : goal.returns-clause-parts
 returns-clause-parts g names ls = each_item_has_a_part names ls
 
 pub returns-clause-fields : goal.returns-clause-fields
-returns-clause-fields g s ls ps n e = all_are_fields s ls ps n e
+returns-clause-fields g names ls e = all_are_fields names ls e

@@ -1,4 +1,6 @@
-use Rattle.std.proofs.Common.{map, refl, sym, ap, ◌∙◌}
+use Rattle.std.proofs.Common.{map, refl, sym, ap, ◌∙◌, ◌||◌}
+use Rattle.rt_modes.specs.declared.mode.Mode.{out-Mode}
+use Rattle.rt_exprs.specs.Operands.{is_label}
 use Rattle.rt_exprs.specs.Names.{find}
 use Rattle.rt_check_starts.specs.declared.parts.Wanted.TheVariants as seen
 use Rattle.rt_check_starts.specs.Starts.{elements, fields, nothing, each_fits, fields_fit, in_each, in_fields, written_in}
@@ -53,7 +55,7 @@ judge_each-loop-part-preserved t c = record {
 pub judge_fields-loop-field-preserved : goal.judge_fields-loop-field-preserved
 judge_fields-loop-field-preserved t c =
     let w = written_in c.args.scope.now c.part-item.result in record {
-      fit = field_fits w c.next_fields.result.0.now c.loop-field.field-index c.field-item.result c.loop-field-test.true c.field-item.is c.loop-field.fit _ c.judge-next.result _ c.judge-next.ensures.fits refl c.loop-field.invariant.fit;
+      fit = field_fits w c.next_fields.result.0.now c.loop-field.field-index c.field-item.result c.loop-field-test.true c.field-item.is c.loop-field.fit _ c.starts_field-fit.result _ (c.starts_field-fit.ensures ∙ ap (λ b. is_label (out-Mode c.field-item.result.mode) || b) c.judge-next.ensures.fits) refl c.loop-field.invariant.fit;
       noted = field_noted w c.next_fields.result.0.now c.loop-field.field-index c.field-item.result c.loop-field-test.true c.field-item.is c.loop-field.faults c.judge-next.new.faults _ c.judge-next.ensures.private c.loop-field.invariant.noted;
     }
 

@@ -1,8 +1,11 @@
-use Rattle.std.proofs.Common.{◌≡◌, ◌≤◌, min, map, length, sym, ◌∙◌, ap, arith}
+use Rattle.std.proofs.Common.{◌≡◌, ◌≤◌, min, map, length, refl, sym, ◌∙◌, ap, arith}
 use Rattle.rt_exprs.specs.Judging as spec
-use Rattle.std.specs.Option.{option_copied}
-use Rattle.rt_exprs.specs.Operands.{found_of, seen}
-use Rattle.rt_exprs.proofs.Trees.{judged_number, judged_text, judged_chained, judged_val, judged_monadic, judged_dyadic, linked_dot, linked_apply, chain_fails, chain_ends, chain_unnamed, arguments_end, reached_as, follow_rows}
+use Rattle.std.specs.Prelude.{Err}
+use Rattle.rt_exprs.specs.Outcomes.{UnlessMemory}
+use Rattle.rt_exprs.specs.Names.{find}
+use Rattle.rt_syntax_exprs.specs.declared.tree.Chain.{out-Chain}
+use Rattle.rt_exprs.proofs.Joins.{given}
+use Rattle.rt_exprs.proofs.Trees.{judged_number, judged_text, judged_chained, judged_val, judged_monadic, judged_dyadic, linked_dot, follow_apply, follow_alone, alone_next, chain_ends, arguments_end}
 use Rattle.rt_exprs.proofs.expression.+judge.Goals as goal
 
 pub judge-returns-in-Number : goal.judge-returns-in-Number
@@ -24,26 +27,6 @@ pub judge-returns-in-Dyadic : goal.judge-returns-in-Dyadic
 judge-returns-in-Dyadic t c =
     rw (judged_dyadic c.args.scope.now c.args.expr.now _ _ _ _ c.in-Dyadic.is, ← c.get-in-Dyadic.ensures, ← c.get-in-Dyadic-2.ensures) (c.dyadic.ensures _ _ c.judge-left.ensures c.judge-right.ensures)
 
-pub follow-returns-in-Dot : goal.follow-returns-in-Dot
-follow-returns-in-Dot t c = rw (linked_dot c.args.scope.now c.args.link.now _ _ (found_of c.args.operand) c.in-Dot.is) c.dot.ensures
-
-pub follow-returns-in-Rows : goal.follow-returns-in-Rows
-follow-returns-in-Rows t c =
-    follow_rows c.args.scope.now c.args.link.now c.in-Apply.arguments c.as_slice-arguments.result.now c.in-Apply.at c.args.operand c.in-Rows.place c.in-Rows.mode.now c.in-Rows.standing c.element.result
-    c.in-Apply.is c.as_slice-arguments.ensures (sym c.in_ok-place-in-Apply.ensures ∙ ap spec.reach_of c.in-Rows.is)
-    (c.element.ensures (spec.subscript c.in-Apply.at (map (spec.judged c.args.scope.now) c.as_slice-arguments.result.now)) c.fit_subscript-subscript.ensures)
-
-pub follow-returns-in-Calls : goal.follow-returns-in-Calls
-follow-returns-in-Calls t c =
-    let e : spec.reach (seen c.args.operand.is) ≡ spec.calls c.in-Calls.callee c.in-Calls.parameters.now (option_copied c.in-Calls.answer) = sym c.in_ok-place-in-Apply.ensures ∙ ap spec.reach_of c.in-Calls.is in
-    rw (linked_apply c.args.scope.now c.args.link.now _ _ (found_of c.args.operand) c.in-Apply.is, ← c.as_slice-arguments.ensures)
-    (reached_as c.in-Apply.at (map (spec.judged c.args.scope.now) c.as_slice-arguments.result.now) (found_of c.args.operand) _ c.called.result e (c.called.ensures _ c.fit_counted-arguments.ensures))
-
-pub follow-returns-in-Neither : goal.follow-returns-in-Neither
-follow-returns-in-Neither t c =
-    let e : spec.reach (seen c.args.operand.is) ≡ spec.neither = sym c.in_ok-place-in-Apply.ensures ∙ ap spec.reach_of c.in-Neither.is in
-    linked_apply c.args.scope.now c.args.link.now _ _ (found_of c.args.operand) c.in-Apply.is ∙ ap (spec.apply_by c.in-Apply.at (map (spec.judged c.args.scope.now) c.in-Apply.arguments) c.args.operand.at) e
-
 pub fit_arguments-returns : goal.fit_arguments-returns
 fit_arguments-returns t c =
     let kept = c.loop-i.invariant in
@@ -51,16 +34,26 @@ fit_arguments-returns t c =
     let ends = arguments_end (spec.judged c.args.scope.now) c.args.arguments.now c.args.parameters.now c.loop-i.i kept.0 short in
     rw (← kept.2, ends) kept.1
 
-pub judge_chain-returns-in-Err : goal.judge_chain-returns-in-Err
-judge_chain-returns-in-Err t c =
-    chain_unnamed c.args.scope.now c.args.chain.now c.in-Err.fault (rw (← c.as_slice.ensures.bytes, ← c.find.ensures) c.in-Err.ensures)
+pub all_alone-loop-expr-init : goal.all_alone-loop-expr-init
+all_alone-loop-expr-init t c = (c.args.fault, given c.args.fault (c.args.fault ≡ c.args.fault) refl, refl)
 
-pub judge_chain-returns-in-Err-follow : goal.judge_chain-returns-in-Err-follow
-judge_chain-returns-in-Err-follow t c =
-    chain_fails c.args.scope.now c.args.chain.now c.as_slice-link-items.result.now c.loop-link.link-index (seen c.in-Ok.is') (found_of c.loop-link.operand)
-    (rw (← c.as_slice.ensures.bytes, ← c.find.ensures) c.in-Ok.ensures) c.as_slice-link-items.ensures c.loop-link.invariant c.link-item.result c.in-Err-follow.fault c.loop-link-test.true c.link-item.is c.in-Err-follow.ensures
+pub all_alone-loop-expr-preserved : goal.all_alone-loop-expr-preserved
+all_alone-loop-expr-preserved t c =
+    let kept = c.loop-expr.invariant in
+    alone_next c.args.scope.now c.args.exprs.now c.loop-expr.expr-index c.expr-item.result c.loop-expr.first c.by_itself.result c.sooner-first.result kept.0 _ c.loop-expr-test.true c.expr-item.is kept.1
+    (c.by_itself.ensures (spec.judged c.args.scope.now c.expr-item.result) c.judge.ensures) c.sooner-first.ensures kept.2
+
+pub follow-returns-in-Dot : goal.follow-returns-in-Dot
+follow-returns-in-Dot t c = λ o h. rw (linked_dot c.args.scope.now c.args.link.now _ _ o c.in-Dot.is) (c.dot.ensures o h)
+
+pub follow-returns-in-Ok : goal.follow-returns-in-Ok
+follow-returns-in-Ok t c = λ o h. follow_apply c.args.scope.now c.args.link.now c.in-Apply.arguments c.as_slice-arguments.result.now c.in-Apply.at c.args.operand c.in-Ok.operand o c.apply.result c.in-Apply.is c.as_slice-arguments.ensures c.in-Ok.is h c.apply.ensures
+
+pub follow-returns-in-Err : goal.follow-returns-in-Err
+follow-returns-in-Err t c = λ o h. follow_alone c.args.scope.now c.args.link.now c.in-Apply.arguments c.as_slice-arguments.result.now c.in-Apply.at c.args.operand c.in-Err.fault c.all_alone.result o c.in-Apply.is c.as_slice-arguments.ensures c.in-Err.is h c.all_alone.ensures
 
 pub judge_chain-returns : goal.judge_chain-returns
 judge_chain-returns t c =
-    chain_ends c.args.scope.now c.args.chain.now c.as_slice-link-items.result.now c.loop-link.link-index (seen c.in-Ok.is') (found_of c.loop-link.operand)
-    (rw (← c.as_slice.ensures.bytes, ← c.find.ensures) c.in-Ok.ensures) c.as_slice-link-items.ensures c.loop-link.invariant c.loop-link-test.false
+    let first = spec.begun (out-Chain c.args.chain.now).at (find c.args.scope.now (out-Chain c.args.chain.now).name) in
+    let k = c.loop-link.invariant first (rw (← c.as_slice.ensures.bytes, ← c.find.ensures) c.named-operand.ensures) in
+    rw (chain_ends c.args.scope.now c.args.chain.now c.as_slice-link-items.result.now c.loop-link.link-index first k.0 refl c.as_slice-link-items.ensures k.2 c.loop-link-test.false) k.1
