@@ -17,8 +17,7 @@ use Rattle.rt_sizes.specs.Sizes.{Table}
 use Rattle.rt_check_declared.specs.Heads.{noted}
 use Rattle.rt_check_declared.specs.Records.{Counts}
 use Rattle.rt_syntax.specs.Strings.{Texts}
-use Rattle.rt_check_bodies.specs.Sights.{Sight}
-use Rattle.rt_check_bodies.specs.Sights.{Names as Level}
+use Rattle.rt_exprs.specs.Sights.{Sight, Names as Level}
 use Rattle.rt_check_declared.specs.Names.{scope}
 use Rattle.rt_check_module.specs.Levels.{module_names}
 use Rattle.rt_check_module.specs.declared.filling.Filling.{Filling}

@@ -1,7 +1,6 @@
 mod Chosen
 mod Typed
 mod Walking
-mod Alike
 mod Joined
 mod Finished
 mod Alone

@@ -15,8 +15,7 @@ use Rattle.rt_check_declared.specs.Heads.{noted}
 use Rattle.rt_check_declared.specs.Records.{Counts}
 use Rattle.rt_syntax.specs.declared.strings.Text.{Text}
 use Rattle.rt_syntax.specs.Strings.{text_of}
-use Rattle.rt_check_bodies.specs.Sights.{Sight}
-use Rattle.rt_check_bodies.specs.Sights.{Names as Level}
+use Rattle.rt_exprs.specs.Sights.{Sight, Names as Level}
 use Rattle.rt_check_declared.specs.Names.{scope}
 use Rattle.rt_check_module.specs.Levels.{module_names}
 use Rattle.rt_check_module.specs.declared.filling.Filling.{Filling}

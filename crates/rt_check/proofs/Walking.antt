@@ -15,7 +15,7 @@ use Rattle.rt_check_declared.specs.Records.{Counts}
 use Rattle.rt_check_declared.proofs.RecordSteps.{drop_next}
 use Rattle.rt_syntax.specs.Strings.{Texts}
 use Rattle.rt_check_module.specs.declared.filling.Filling.{Filling}
-use Rattle.rt_check_bodies.specs.Sights.{Sight}
+use Rattle.rt_exprs.specs.Sights.{Sight}
 use Rattle.rt_sizes.specs.Sizes.{Table}
 use Rattle.rt_check_module.specs.Tree.{first, gathered, fillings_in, Somewhere, texts_in, texts_from}
 use Rattle.rt_check_module.specs.Faults.{Inside}

@@ -3,7 +3,6 @@
 ghost use Rattle.std.specs.Prelude.{◌≡◌, true, ◌++◌, List, [], ◌∷◌, Option, Some, None, replicate, IfOk, IfErr, OnOk};
 ghost use Rattle.std.specs.Option.{option_copied};
 ghost use Rattle.rt_check_declared.specs.Totals.{LargeFault};
-ghost use Rattle.rt_check_bodies.specs.Sights.{scope_of};
 ghost use Rattle.rt_exprs.specs.declared.fault.CheckFault.{CheckFault};
 ghost use Rattle.rt_exprs.specs.Outcomes.{IsLeast, UnlessMemory};
 ghost use Rattle.rt_check_declared.specs.Records.{Counts};
@@ -142,9 +141,9 @@ fn data_filling(
     parts: &[Part],
     is_fit: bool,
 ) -> Result<Option<Filling>, CheckFault>
-    ensures held { (t : Table) → AreSizes t sizes.now → is_fit ≡ true → IfOk result (λ f. f ≡ Some (record { body = None; starts = brick_starts (scope_of names.now) lines.now parts.now })) }
-    ensures fit { (t : Table) → AreSizes t sizes.now → IfOk result (λ _. (g : CheckFault) → BrickFault t (scope_of names.now) lines.now parts.now g → ⊥) }
-    ensures fault { (t : Table) → AreSizes t sizes.now → IfErr result (λ g. UnlessMemory g (IsLeast (BrickFault t (scope_of names.now) lines.now parts.now) g)) }
+    ensures held { (t : Table) → AreSizes t sizes.now → is_fit ≡ true → IfOk result (λ f. f ≡ Some (record { body = None; starts = brick_starts names.now lines.now parts.now })) }
+    ensures fit { (t : Table) → AreSizes t sizes.now → IfOk result (λ _. (g : CheckFault) → BrickFault t names.now lines.now parts.now g → ⊥) }
+    ensures fault { (t : Table) → AreSizes t sizes.now → IfErr result (λ g. UnlessMemory g (IsLeast (BrickFault t names.now lines.now parts.now) g)) }
 {
     match read_starts(alloc, &names.scope(), lines, parts, sizes, is_fit) {
         Ok(starts) => Ok(Some(Filling { body: None, starts })),

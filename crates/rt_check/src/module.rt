@@ -8,7 +8,6 @@ ghost use Rattle.rt_check_module.specs.Tree as spec;
 ghost use Rattle.rt_check_module.specs.Tree.{tree};
 ghost use Rattle.rt_check_module.specs.Faults.{Inside as InBrick};
 ghost use Rattle.rt_check_declared.specs.Records.{Counts};
-ghost use Rattle.rt_check_bodies.specs.Seen.{names_of};
 ghost use Rattle.rt_sizes.specs.Capped.{AreSizes};
 ghost use Rattle.rt_sizes.specs.Sizes.{Table};
 ghost use Rattle.rt_check_module.specs.Typed.{IsTyped};
@@ -93,8 +92,8 @@ fn read_inside<'m>(
     is_fit: bool,
 ) -> Result<Inside, Memory>
     ensures strings { IfOk result (λ h. h.strings ≡ map (λ t. t.1) (spec.texts_from modes.now.records [] bricks.now declarations.now)) }
-    ensures fillings { (t : Table) → AreSizes t sizes.now → TextsRise modes.now.records bricks.now declarations.now → is_fit ≡ true → IfOk result (λ h. h.fault ≡ None → h.fillings ≡ spec.gathered (spec.fillings_in (sight_of modes.now.records bricks.now declarations.now (names_of level.entry))) bricks.now declarations.now) }
-    ensures fault { (t : Table) → AreSizes t sizes.now → TextsRise modes.now.records bricks.now declarations.now → IfOk result (λ h. Counts (λ g. spec.Somewhere (InBrick (sight_of modes.now.records bricks.now declarations.now (names_of level.entry)) t g) bricks.now declarations.now) h.fault) }
+    ensures fillings { (t : Table) → AreSizes t sizes.now → TextsRise modes.now.records bricks.now declarations.now → is_fit ≡ true → IfOk result (λ h. h.fault ≡ None → h.fillings ≡ spec.gathered (spec.fillings_in (sight_of modes.now.records bricks.now declarations.now level.entry)) bricks.now declarations.now) }
+    ensures fault { (t : Table) → AreSizes t sizes.now → TextsRise modes.now.records bricks.now declarations.now → IfOk result (λ h. Counts (λ g. spec.Somewhere (InBrick (sight_of modes.now.records bricks.now declarations.now level.entry) t g) bricks.now declarations.now) h.fault) }
 {
     let texts = read_texts(alloc, declarations, modes.table(), bricks)?;
     let items = string_items(alloc, texts.as_slice())?;

@@ -4,7 +4,7 @@ use Rattle.std.proofs.Math.Seq.{drop-cons}
 use Rattle.rt_tree_nodes.specs.declared.statement.LocalStart.{LocalStart}
 use Rattle.rt_syntax.specs.declared.tree.Locals.{Locals}
 use Rattle.rt_check_bodies.specs.declared.tally.Tally.{Tally}
-use Rattle.rt_check_bodies.specs.Sights.{Sight}
+use Rattle.rt_exprs.specs.Sights.{Sight}
 use Rattle.rt_check_bodies.specs.Statements.{Declared, declared_by, line_more, declarations, Behind}
 
 drop_next : (xs : List Locals) (i : ℕ) (x : Locals) → i < length xs → x ≡ get_or xs i x → drop i xs ≡ x ∷ drop (i + 1) xs

@@ -1,5 +1,3 @@
-pub mod Alike
-pub mod Levels
 pub mod Told
 pub mod Lines
 pub mod Declaring

@@ -7,7 +7,8 @@ use Rattle.rt_exprs.specs.declared.fault.CheckFault.{CheckFault}
 use Rattle.rt_exprs.specs.declared.fault.CheckFault.TheVariants as fault
 use Rattle.rt_exprs.specs.Outcomes.{Outcome, UnlessMemory, IsLeast, sooner}
 use Rattle.rt_exprs.proofs.Joins.{given, told, free, sooner_left, sooner_right}
-use Rattle.rt_check_bodies.specs.Sights.{Sight, alone_in, assigned_in}
+use Rattle.rt_exprs.specs.Sights.{Sight}
+use Rattle.rt_check_bodies.specs.Sights.{alone_in, assigned_in}
 
 -- a fault as an answer
 pub told_err : {A : Type 0} (f g : CheckFault) → UnlessMemory f (f ≡ g) → (o : Outcome A) → o ≡ Err g → UnlessMemory f (o ≡ Err f)

@@ -8,7 +8,7 @@ use Rattle.rt_tree_nodes.specs.declared.statement.Body.{Body as BodyMade}
 use Rattle.rt_tree_nodes.specs.declared.statement.Labelled.{Labelled}
 use Rattle.rt_check_bodies.specs.declared.tally.Tally.{Tally}
 use Rattle.rt_check_bodies.specs.Parts.{Part, Gave, ◌>>=◌}
-use Rattle.rt_check_bodies.specs.Sights.{Names, Sight, within}
+use Rattle.rt_exprs.specs.Sights.{Names, Sight, within}
 use Rattle.rt_check_bodies.specs.declared.answer.Answer.{Answer}
 use Rattle.rt_check_bodies.specs.Statements.{line, labels_of, labels_at, own_labels, in_order, sequence, body}
 use Rattle.rt_check_bodies.specs.Procedures.{parameters, answer_in, closed_at, closing, body_in, nothing_yet}

@@ -1,5 +1,4 @@
 pub mod Sights
 pub mod Parts
-pub mod Seen
 pub mod Statements
 pub mod Procedures

@@ -1,7 +1,7 @@
 -- Parts of a procedure: what each is, and what has been counted behind it, by what has been counted before it. Where a part
 -- is unfit its fault is noted, and something else of its form stands in its place, as where it can't be known. No tree of a
 -- module holds such a part: a fault stands in the module there.
-use Rattle.std.specs.Prelude.{◌≡◌, ℕ, ◌+◌, ◌%◌, Bool, true, false, List, [], ◌∷◌, ◌++◌, length, None, Ok, Err}
+use Rattle.std.specs.Prelude.{◌≡◌, ℕ, ◌+◌, Bool, true, false, List, [], ◌∷◌, ◌++◌, length, None, Ok, Err}
 use Rattle.rt_grammar.specs.declared.at.Ident.{Ident}
 use Rattle.rt_modes.specs.declared.mode.Mode.{Mode}
 use Rattle.rt_tree_nodes.specs.declared.brick.Local.{Local as Made}
@@ -18,7 +18,8 @@ use Rattle.rt_exprs.specs.declared.fault.CheckFault.TheVariants as fault
 use Rattle.rt_exprs.specs.declared.scope.Meaning.TheVariants as meaning
 use Rattle.rt_exprs.specs.Outcomes.{Outcome}
 use Rattle.rt_check_bodies.specs.declared.tally.Tally.{Tally}
-use Rattle.rt_check_bodies.specs.Sights.{Names, Sight, holds, declared, label_in}
+use Rattle.rt_exprs.specs.Sights.{Names, Sight, holds, declared}
+use Rattle.rt_check_bodies.specs.Sights.{label_in}
 
 -- ---- what is counted
 
@@ -41,11 +42,11 @@ with_local l t = record { locals = t.locals ++ l ∷ []; labels = t.labels; faul
 
 -- the number of the next local
 abbrev pub next_local : Tally → ℕ
-next_local t = length t.locals % 65536
+next_local t = length t.locals
 
 -- the label behind another
 abbrev pub behind : ℕ → ℕ
-behind n = (n + 1) % 65536
+behind n = n + 1
 
 -- one more label
 abbrev pub with_label : Tally → Tally

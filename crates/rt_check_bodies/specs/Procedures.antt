@@ -18,7 +18,8 @@ use Rattle.rt_check_declared.specs.Verdicts.{IsIn}
 use Rattle.rt_check_bodies.specs.declared.answer.Answer.{Answer}
 use Rattle.rt_check_bodies.specs.declared.answer.Answer.TheVariants as answer
 use Rattle.rt_check_bodies.specs.declared.tally.Tally.{Tally}
-use Rattle.rt_check_bodies.specs.Sights.{Names, Sight, declared, within, mode_in}
+use Rattle.rt_exprs.specs.Sights.{Names, Sight, declared, within}
+use Rattle.rt_check_bodies.specs.Sights.{mode_in}
 use Rattle.rt_check_bodies.specs.Parts.{Part, it_is, ◌>>=◌, noted_if, noted_twice, with_local, next_local, mode_or}
 use Rattle.rt_check_bodies.specs.Statements.{body}
 use Rattle.rt_bricks.specs.Counted.{items_of}

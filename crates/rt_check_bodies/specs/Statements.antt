@@ -34,7 +34,8 @@ use Rattle.rt_check_bodies.specs.declared.answer.Answer.{Answer}
 use Rattle.rt_check_bodies.specs.declared.plain.Bounds.{Bounds}
 use Rattle.rt_check_bodies.specs.declared.answer.Answer.TheVariants as answer
 use Rattle.rt_check_bodies.specs.declared.tally.Tally.{Tally}
-use Rattle.rt_check_bodies.specs.Sights.{Names, Sight, declared, within, innermost, with_name, value_in, alone_in, nowhere_in, assignment_in, val_assignment_in, call_in, test_in, label_in, mode_in}
+use Rattle.rt_exprs.specs.Sights.{Names, Sight, declared, within, innermost, with_name}
+use Rattle.rt_check_bodies.specs.Sights.{value_in, alone_in, nowhere_in, assignment_in, val_assignment_in, call_in, test_in, label_in, mode_in}
 
 -- an expression of which INT is wanted
 abbrev pub int_in : Sight → Expr → Part Value

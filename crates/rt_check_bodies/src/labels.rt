@@ -1,12 +1,11 @@
 //! Names that are declared, labels and their numbers.
 
 ghost use Rattle.std.specs.Prelude.{◌≡◌, [], IfOk, OnOk};
-ghost use Rattle.rt_check_bodies.specs.Seen.{names_of};
-ghost use Rattle.rt_check_bodies.specs.Sights.{declared};
+ghost use Rattle.rt_exprs.specs.Sights.{declared};
 ghost use Rattle.rt_check_bodies.specs.Parts as spec;
 ghost use Rattle.rt_check_bodies.specs.Parts.{Gave};
 
-use crate::names::{Names, declare};
+use crate::names::Names;
 use crate::tally::{Tally, behind};
 use rt_exprs::{CheckFault, Level, Meaning};
 use rt_grammar::Ident;
@@ -20,10 +19,10 @@ pub fn declare_name<'a>(
     name: &'a Ident,
     meaning: Meaning,
 ) -> Result<(), Memory>
-    ensures level { OnOk result (names_of level.new ≡ declared name.now.name meaning (names_of level.old)) }
-    ensures noted { OnOk result (tally.new ≡ spec.noted_twice (names_of level.old) name.now tally.old) }
+    ensures level { OnOk result (level.new ≡ declared name.now.name meaning level.old) }
+    ensures noted { OnOk result (tally.new ≡ spec.noted_twice level.old name.now tally.old) }
 {
-    let held = declare(level, name.name.as_slice(), meaning)?;
+    let held = level.declare(name.name.as_slice(), meaning)?;
     tally.note_if(held, CheckFault::DeclaredTwice(name.at))
 }
 
@@ -33,12 +32,12 @@ pub fn add_labels<'a>(
     tally: &mut Tally,
     labels: &'a [Ident],
 ) -> Result<(), Memory>
-    ensures { OnOk result (Gave (names_of level.new) tally.new (spec.labels_more (names_of level.old) labels.now tally.old)) }
+    ensures { OnOk result (Gave level.new tally.new (spec.labels_more level.old labels.now tally.old)) }
 {
     for label in labels {
         let number = tally.labels;
         declare_name(level, tally, label, Meaning::Label(number))?;
-        tally.add_label();
+        tally.add_label()?;
     }
     Ok(())
 }
@@ -51,7 +50,7 @@ pub fn numbers_from(alloc: Global, first: u16, labels: &[Ident]) -> Result<(List
     let mut next = first;
     for _label in labels {
         numbers.push(next)?;
-        next = behind(next);
+        next = behind(next)?;
     }
     Ok((numbers, next))
 }

@@ -6,7 +6,7 @@ ghost use Rattle.rt_tree_nodes.specs.declared.statement.LocalStart.{LocalStart};
 ghost use Rattle.rt_tree.specs.Statements.{starts_at_zero};
 ghost use Rattle.rt_exprs.specs.Outcomes.{Outcome};
 ghost use Rattle.rt_check_bodies.specs.Parts.{Gave};
-ghost use Rattle.rt_check_bodies.specs.Sights.{outside};
+ghost use Rattle.rt_exprs.specs.Sights.{outside};
 ghost use Rattle.rt_check_bodies.specs.Statements as spec;
 
 use crate::{Names, Tally};
@@ -118,7 +118,7 @@ fn add_local<'a>(
     ensures kept { OnOk result (outside names.new ≡ outside names.old) }
 {
     let start = start(alloc, names, tally, &local.name, mode, &local.start)?;
-    let number = tally.next_local();
+    let number = tally.next_local()?;
     let meaning = Meaning::Local(number, copy_mode(alloc, mode)?);
     declare(alloc, names, tally, &local.name, meaning)?;
     starts.push(LocalStart {

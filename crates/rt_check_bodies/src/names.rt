@@ -1,6 +1,6 @@
 //! What the nodes of a body see.
 
-ghost use Rattle.std.specs.Prelude.{◌≡◌, false, [], ◌∷◌, ◌++◌, map, Option, IfOk, OnOk};
+ghost use Rattle.std.specs.Prelude.{◌≡◌, [], ◌∷◌, Option, IfOk, OnOk};
 ghost use Rattle.std.specs.Option.{option_copied};
 ghost use Rattle.rt_modes.specs.declared.mode.Mode.{Mode};
 ghost use Rattle.rt_tree_nodes.specs.declared.value.Place.{Place};
@@ -10,14 +10,14 @@ ghost use Rattle.rt_exprs.specs.Judging.{target, val_target, alone};
 ghost use Rattle.rt_check_declared.specs.declared.site.Site.TheVariants as site;
 ghost use Rattle.rt_check_declared.specs.Verdicts.{Answers};
 ghost use Rattle.rt_check_declared.specs.Written.{written as spelt};
+ghost use Rattle.rt_exprs.specs.Sights as sights;
 ghost use Rattle.rt_check_bodies.specs.Sights as spec;
-ghost use Rattle.rt_check_bodies.specs.Seen.{names_of, Alike};
 
-use indexmap::{IndexMap, IndexSet};
-use rt_check_declared::{Resolved, Site, find_name, resolve};
+use indexmap::IndexSet;
+use rt_check_declared::{Resolved, Site, resolve};
 use rt_exprs::{
-    CheckFault, IndexedRecords, Level, Meaning, Scope, fit, fit_by_itself, fit_call, fit_condition,
-    fit_nothing, fit_target, fit_val_target,
+    CheckFault, IndexedRecords, Level, Meaning, Scope, find_name, fit, fit_by_itself, fit_call,
+    fit_condition, fit_nothing, fit_target, fit_val_target,
 };
 use rt_grammar::{At, Ident};
 use rt_modes::Mode;
@@ -36,17 +36,15 @@ pub struct Names<'a> {
 }
 
 impl<'a> Model for Names<'a> {
-    ghost use Rattle.std.specs.Prelude.{map};
-    ghost use Rattle.rt_check_bodies.specs.Sights.{Sight};
     ghost use Rattle.std.specs.Coded.{codes};
     ghost use Rattle.rt_modes.specs.contracts.mode.Mode as trees;
-    ghost use Rattle.rt_check_bodies.specs.Seen.{names_of};
+    ghost use Rattle.rt_exprs.specs.Sights.{Sight};
 
     ghost Value = { Sight };
 
     ghost coded = { Prim.hlevel (codes, trees.the_row.coded) };
 
-    ghost view = { λ n. record { records = n.modes.now.records; strings = n.strings.now.keys; levels = map names_of n.levels.items } };
+    ghost view = { λ n. record { records = n.modes.now.records; strings = n.strings.now.keys; levels = n.levels.items } };
 }
 
 impl<'a> Names<'a> {
@@ -57,7 +55,7 @@ impl<'a> Names<'a> {
         strings: &'a IndexSet<u16>,
         level: Level<'a>,
     ) -> Result<Names<'a>, Memory>
-        ensures { IfOk result (λ n. n ≡ record { records = modes.now.records; strings = strings.now.keys; levels = names_of level.entry ∷ [] }) }
+        ensures { IfOk result (λ n. n ≡ record { records = modes.now.records; strings = strings.now.keys; levels = level.entry ∷ [] }) }
     {
         let Ok(mut levels) = Vec::with_capacity(alloc, 1) else {
             return Err(Memory);
@@ -74,7 +72,7 @@ impl<'a> Names<'a> {
 
     /// Opens a level of names.
     pub fn enter(&mut self, level: Level<'a>) -> Result<(), Memory>
-        ensures { OnOk result (self.new ≡ spec.within (names_of level.entry) self.old) }
+        ensures { OnOk result (self.new ≡ sights.within level.entry self.old) }
     {
         match self.levels.insert(0, level) {
             Ok(()) => Ok(()),
@@ -84,7 +82,7 @@ impl<'a> Names<'a> {
 
     /// Closes the innermost level.
     pub fn leave(&mut self)
-        ensures { self.new ≡ spec.outside self.old }
+        ensures { self.new ≡ sights.outside self.old }
     {
         if self.levels.len() > 0 {
             self.levels.remove(0);
@@ -98,35 +96,31 @@ impl<'a> Names<'a> {
         name: &'a [u8],
         meaning: Meaning,
     ) -> Result<bool, Memory>
-        ensures held { IfOk result (λ held. held ≡ spec.holds (spec.innermost self.old.levels) name.now) }
-        ensures declared { OnOk result (self.new ≡ spec.with_name name.now meaning self.old) }
+        ensures held { IfOk result (λ held. held ≡ sights.holds (sights.innermost self.old.levels) name.now) }
+        ensures declared { OnOk result (self.new ≡ sights.with_name name.now meaning self.old) }
     {
         let mut level = self.take_innermost(alloc);
-        let held = declare(&mut level, name, meaning)?;
+        let held = level.declare(name, meaning)?;
         self.enter(level)?;
         Ok(held)
     }
 
     fn take_innermost(&mut self, alloc: Global) -> Level<'a>
-        ensures level { names_of result ≡ spec.innermost self.old.levels }
-        ensures left { self.new ≡ spec.outside self.old }
+        ensures level { result ≡ sights.innermost self.old.levels }
+        ensures left { self.new ≡ sights.outside self.old }
     {
         if self.levels.len() > 0 {
             self.levels.remove(0)
         } else {
-            IndexMap::new(alloc)
+            Level::new(alloc)
         }
     }
 
     /// The same as the rules of expressions take it.
     pub fn scope(&self) -> Scope<'_>
-        ensures { Alike result (spec.scope_of self.now) }
+        ensures { result ≡ self.now }
     {
-        Scope {
-            modes: self.modes,
-            strings: self.strings,
-            levels: self.levels.as_slice(),
-        }
+        Scope::new(self.modes, self.strings, self.levels.as_slice())
     }
 
     /// The value of an expression where a mode is wanted.
@@ -138,7 +132,7 @@ impl<'a> Names<'a> {
 
     /// The place to which a chain assigns, and its mode.
     fn target(&self, alloc: Global, to: &Chain) -> Result<(Option<Place>, &Mode), CheckFault>
-        ensures { Gives (λ x. (x.0, x.1.now)) result (target (spec.scope_of self.now) to.now) }
+        ensures { Gives (λ x. (x.0, x.1.now)) result (target self.now to.now) }
     {
         fit_target(alloc, to, &self.scope())
     }
@@ -150,7 +144,7 @@ impl<'a> Names<'a> {
         at: At,
         to: &Chain,
     ) -> Result<(Option<Place>, &Mode), CheckFault>
-        ensures { Gives (λ x. (x.0, x.1.now)) result (val_target (spec.scope_of self.now) at to.now) }
+        ensures { Gives (λ x. (x.0, x.1.now)) result (val_target self.now at to.now) }
     {
         fit_val_target(alloc, at, to, &self.scope())
     }
@@ -211,7 +205,7 @@ impl<'a> Names<'a> {
     }
 
     fn called(&self, alloc: Global, chain: &Chain) -> Result<Value, CheckFault>
-        ensures { Gives (λ v. v) result (alone (spec.scope_of self.now) chain.now) }
+        ensures { Gives (λ v. v) result (alone self.now chain.now) }
     {
         fit_call(alloc, chain, &self.scope())
     }
@@ -232,7 +226,7 @@ impl<'a> Names<'a> {
 
     /// What a name stands for.
     fn meaning(&self, name: &[u8]) -> Option<&Meaning>
-        ensures { option_copied result ≡ find (spec.scope_of self.now) name.now }
+        ensures { option_copied result ≡ find self.now name.now }
     {
         find_name(self.levels.as_slice(), name)
     }
@@ -246,7 +240,7 @@ impl<'a> Names<'a> {
 
     /// The mode that is written for a parameter, a local or a result.
     fn resolved(&self, alloc: Global, written: &WrittenMode) -> Result<Resolved, CheckFault>
-        ensures { Answers (λ r. r) result (spelt (find (spec.scope_of self.now)) written.now site.Variable) }
+        ensures { Answers (λ r. r) result (spelt (find self.now) written.now site.Variable) }
     {
         resolve(alloc, written, Site::Variable, self.levels.as_slice())
     }
@@ -286,34 +280,5 @@ fn label_by(at: At, meaning: Option<&Meaning>) -> Result<u16, CheckFault>
             }
             _ => Err(CheckFault::UnknownLabel(at)),
         },
-    }
-}
-
-/// One name more in a level: whether it was there already. Of two the first counts.
-pub fn declare<'a>(level: &mut Level<'a>, name: &'a [u8], meaning: Meaning) -> Result<bool, Memory>
-    ensures held { IfOk result (λ held. held ≡ spec.holds (names_of level.old) name.now) }
-    ensures declared { OnOk result (names_of level.new ≡ spec.declared name.now meaning (names_of level.old)) }
-{
-    if has_name(level, name) {
-        return Ok(true);
-    }
-    insert_new(level, name, meaning)?;
-    Ok(false)
-}
-
-fn has_name(level: &Level<'_>, name: &[u8]) -> bool
-    ensures { result ≡ spec.holds (names_of level.now) name.now }
-{
-    level.get(name).is_some()
-}
-
-/// Adds a name that isn't there.
-fn insert_new<'a>(level: &mut Level<'a>, name: &'a [u8], meaning: Meaning) -> Result<(), Memory>
-    requires { spec.holds (names_of level.now) name.now ≡ false }
-    ensures { OnOk result (names_of level.new ≡ names_of level.old ++ (name.now, meaning) ∷ []) }
-{
-    match level.insert(name, meaning) {
-        Ok(_) => Ok(()),
-        Err(_) => Err(Memory),
     }
 }

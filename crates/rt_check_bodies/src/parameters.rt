@@ -2,7 +2,6 @@
 
 ghost use Rattle.std.specs.Prelude.{◌≡◌, IfOk, OnOk};
 ghost use Rattle.rt_check_bodies.specs.Procedures as spec;
-ghost use Rattle.rt_check_bodies.specs.Seen.{names_of};
 ghost use Rattle.rt_check_bodies.specs.Parts.{Gave};
 
 use crate::answer::Answer;
@@ -24,7 +23,7 @@ pub fn add_parameters<'a>(
     tally: &mut Tally,
     fields: &'a [Fields],
 ) -> Result<(), Memory>
-    ensures { OnOk result (Gave (names_of level.new) tally.new (spec.parameters names.now (names_of level.old) fields.now tally.old)) }
+    ensures { OnOk result (Gave level.new tally.new (spec.parameters names.now level.old fields.now tally.old)) }
 {
     for group in fields {
         let mode = tally.mode_or(names.mode(alloc, group.at, &group.mode))?;
@@ -41,7 +40,7 @@ fn add_group<'a>(
     mode: &Result<Mode, CheckFault>,
     names: &'a [Ident],
 ) -> Result<(), Memory>
-    ensures { OnOk result (Gave (names_of level.new) tally.new (spec.group mode.now (names_of level.old) names.now tally.old)) }
+    ensures { OnOk result (Gave level.new tally.new (spec.group mode.now level.old names.now tally.old)) }
 {
     for name in names {
         add_judged(alloc, level, tally, mode, name)?;
@@ -57,7 +56,7 @@ fn add_judged<'a>(
     mode: &Result<Mode, CheckFault>,
     name: &'a Ident,
 ) -> Result<(), Memory>
-    ensures { OnOk result (Gave (names_of level.new) tally.new (spec.named (names_of level.old) name.now mode.now tally.old)) }
+    ensures { OnOk result (Gave level.new tally.new (spec.named level.old name.now mode.now tally.old)) }
 {
     match mode {
         Ok(mode) => add_parameter(alloc, level, tally, mode, name),
@@ -73,9 +72,9 @@ fn add_parameter<'a>(
     mode: &Mode,
     name: &'a Ident,
 ) -> Result<(), Memory>
-    ensures { OnOk result (Gave (names_of level.new) tally.new (spec.parameter (names_of level.old) name.now mode.now tally.old)) }
+    ensures { OnOk result (Gave level.new tally.new (spec.parameter level.old name.now mode.now tally.old)) }
 {
-    let meaning = Meaning::Local(tally.next_local(), copy_mode(alloc, mode)?);
+    let meaning = Meaning::Local(tally.next_local()?, copy_mode(alloc, mode)?);
     declare_name(level, tally, name, meaning)?;
     tally.add_local(Made::Variable(copy_mode(alloc, mode)?))
 }

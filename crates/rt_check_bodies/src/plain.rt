@@ -4,13 +4,11 @@ ghost use Rattle.std.specs.Prelude.{◌≡◌, IfOk, OnOk};
 ghost use Rattle.rt_tree_nodes.specs.declared.value.Value.{Value};
 ghost use Rattle.rt_exprs.specs.Outcomes.{Outcome, Gives};
 ghost use Rattle.rt_check_bodies.specs.Parts.{Gave};
-ghost use Rattle.rt_check_bodies.specs.Seen.{names_of};
-ghost use Rattle.rt_check_bodies.specs.Sights.{within};
+ghost use Rattle.rt_exprs.specs.Sights.{within};
 ghost use Rattle.rt_check_bodies.specs.Statements as spec;
 
 use crate::answer::Answer;
-use crate::{Names, Tally, declare, labels_in};
-use indexmap::IndexMap;
+use crate::{Names, Tally, labels_in};
 use rt_exprs::{CheckFault, Level, Meaning};
 use rt_grammar::{At, Ident};
 use rt_modes::Mode;
@@ -58,14 +56,10 @@ pub fn enter_loop<'a>(
 }
 
 fn level_of<'a>(alloc: Global, control: &'a Control, first: u16) -> Result<Level<'a>, Memory>
-    ensures { IfOk result (λ level. names_of level ≡ spec.variable_of control.now first) }
+    ensures { IfOk result (λ level. level ≡ spec.variable_of control.now first) }
 {
-    let mut level = IndexMap::new(alloc);
-    declare(
-        &mut level,
-        control.name.name.as_slice(),
-        Meaning::Loop(first),
-    )?;
+    let mut level = Level::new(alloc);
+    level.declare(control.name.name.as_slice(), Meaning::Loop(first))?;
     Ok(level)
 }
 

@@ -12,10 +12,9 @@ use crate::answer::Answer;
 use crate::parameters::{add_parameters, answer_of};
 use crate::statements::body;
 use crate::{Names, Tally, first_of};
-use indexmap::IndexMap;
 use rt_bricks::ProcedureBrick;
 use rt_check_declared::gathered_fault_counts;
-use rt_exprs::CheckFault;
+use rt_exprs::{CheckFault, Level};
 use rt_grammar::At;
 use rt_tree::is_closed;
 use rt_tree_nodes::{Body, ProcBody};
@@ -97,7 +96,7 @@ fn body_in<'a>(
     ensures made { IfOk result (λ x. Gave x tally.new (spec.body_in names.old brick.now tally.old)) }
     ensures kept { OnOk result (names.new ≡ names.old) }
 {
-    let mut level = IndexMap::new(alloc);
+    let mut level = Level::new(alloc);
     add_parameters(alloc, names, &mut level, tally, brick.fields.as_slice())?;
     let answer = answer_of(alloc, names, tally, brick.at, &brick.result)?;
     names.enter(level)?;

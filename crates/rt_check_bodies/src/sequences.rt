@@ -1,7 +1,6 @@
 //! The labels of a sequence.
 
 ghost use Rattle.std.specs.Prelude.{◌≡◌, map, OnOk};
-ghost use Rattle.rt_check_bodies.specs.Seen.{names_of};
 ghost use Rattle.rt_check_bodies.specs.Parts.{Gave};
 ghost use Rattle.rt_check_bodies.specs.Statements as spec;
 
@@ -16,7 +15,7 @@ pub fn add_all_labels<'a>(
     tally: &mut Tally,
     statements: &'a [Stmt],
 ) -> Result<(), Memory>
-    ensures { OnOk result (Gave (names_of level.new) tally.new (spec.labels_of (names_of level.old) (map spec.own_labels statements.now) tally.old)) }
+    ensures { OnOk result (Gave level.new tally.new (spec.labels_of level.old (map spec.own_labels statements.now) tally.old)) }
 {
     for statement in statements {
         add_labels(level, tally, statement.labels.as_slice())?;

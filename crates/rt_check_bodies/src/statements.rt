@@ -9,7 +9,7 @@ use crate::locals::declarations;
 use crate::plain::{bounds_of, enter_loop, goto, int, returned, switch};
 use crate::sequences::add_all_labels;
 use crate::{Names, Tally, numbers_from};
-use indexmap::IndexMap;
+use rt_exprs::Level;
 use rt_syntax::{Body, Branch, Simple, Stmt};
 use rt_tree_nodes::{Body as BodyMade, Branch as BranchMade, Labelled, Stat};
 use rt_words::{List, Memory};
@@ -27,7 +27,7 @@ pub fn body<'a>(
     ensures made { IfOk result (λ x. Gave x tally.new (spec.body answer.now body.now names.old tally.old)) }
     ensures kept { OnOk result (names.new ≡ names.old) }
 {
-    names.enter(IndexMap::new(alloc))?;
+    names.enter(Level::new(alloc))?;
     let locals = declarations(alloc, names, tally, body.locals.as_slice())?;
     let statements = sequence(alloc, names, tally, answer, body.statements.as_slice())?;
     names.leave();
@@ -47,7 +47,7 @@ fn sequence<'a>(
     ensures kept { OnOk result (names.new ≡ names.old) }
 {
     let first = tally.labels;
-    let mut level = IndexMap::new(alloc);
+    let mut level = Level::new(alloc);
     add_all_labels(&mut level, tally, statements)?;
     names.enter(level)?;
     let made = in_order(alloc, names, tally, answer, first, statements)?;

@@ -52,28 +52,31 @@ impl Tally {
         self.locals.push(local)
     }
 
-    /// The number of the next parameter or local.
-    pub fn next_local(&self) -> u16
-        ensures { result ≡ spec.next_local self.now }
+    /// The number of the next parameter or local, where it has 16 bits; a procedure with more is answered as want of memory.
+    pub fn next_local(&self) -> Result<u16, Memory>
+        ensures { IfOk result (λ n. n ≡ spec.next_local self.now) }
     {
-        (self.locals.len() % 65536) as u16
+        let count = self.locals.len();
+        if count < 65536 {
+            Ok(count as u16)
+        } else {
+            Err(Memory)
+        }
     }
 
-    /// One more label: its number.
-    pub fn add_label(&mut self) -> u16
-        ensures number { result ≡ self.old.labels }
-        ensures added { self.new ≡ spec.with_label self.old }
+    /// One more label.
+    pub fn add_label(&mut self) -> Result<(), Memory>
+        ensures { OnOk result (self.new ≡ spec.with_label self.old) }
     {
-        let number = self.labels;
-        self.labels = behind(number);
-        number
+        self.labels = behind(self.labels)?;
+        Ok(())
     }
 
     /// The three locals of a loop: the number of the first.
     pub fn add_loop(&mut self) -> Result<u16, Memory>
         ensures { IfOk result (λ k. Gave k self.new (spec.three_locals self.old)) }
     {
-        let first = self.next_local();
+        let first = self.next_local()?;
         self.add_local(Local::Loop)?;
         self.add_local(Local::Loop)?;
         self.add_local(Local::Loop)?;
@@ -142,9 +145,12 @@ impl Tally {
     }
 }
 
-/// The label behind another.
-pub fn behind(label: u16) -> u16
-    ensures { result ≡ spec.behind label }
+/// The label behind another, where its number has 16 bits; a procedure with more is answered as want of memory.
+pub fn behind(label: u16) -> Result<u16, Memory>
+    ensures { IfOk result (λ n. n ≡ spec.behind label) }
 {
-    label.wrapping_add(1)
+    match label.checked_add(1) {
+        Some(next) => Ok(next),
+        None => Err(Memory),
+    }
 }

@@ -59,7 +59,8 @@ use Rattle.rt_exprs_laws.proofs.Passing.{passed_is_value}
 use Rattle.rt_exprs_laws.proofs.Judged.{value_judged, target_judged, val_judged, call_judged, test_judged, int_judged}
 use Rattle.rt_check_bodies.specs.declared.tally.Tally.{Tally}
 use Rattle.rt_check_bodies.specs.Parts.{found_or, noted_if, next_local, three_locals, labels_in, label_or, test_or, mode_or}
-use Rattle.rt_check_bodies.specs.Sights.{Sight, within, scope_of, assigning, assigned_in, value_in, assignment_in, val_assignment_in, call_in, test_in, label_in, mode_in}
+use Rattle.rt_exprs.specs.Sights.{Sight, within}
+use Rattle.rt_check_bodies.specs.Sights.{assigning, assigned_in, value_in, assignment_in, val_assignment_in, call_in, test_in, label_in, mode_in}
 use Rattle.rt_check_bodies.specs.declared.answer.Answer.{Answer}
 use Rattle.rt_check_bodies.specs.declared.answer.Answer.TheVariants as answer
 use Rattle.rt_check_bodies.specs.declared.plain.Bounds.{Bounds}
@@ -71,7 +72,7 @@ use Rattle.rt_check_bodies_laws.specs.Held.{EntryHolds, ResultIs}
 use Rattle.rt_check_bodies_laws.proofs.Knowing.{Certain}
 use Rattle.rt_check_bodies_laws.proofs.Certain.{value_certain, assign_certain, assign_val_certain, call_in_certain, test_certain, label_certain, returned_certain}
 use Rattle.rt_check_bodies_laws.proofs.Holding.{Shown, shown_within, shown_named, shown_knows, declared_holds, agrees, label_seen}
-use Rattle.rt_check_bodies_laws.proofs.Sequences.{settled, mode_found, one_is_there, one_longer, pre_length, pre_get, small_rest, Fine, fine_before, Goes, Known, lines, lines_grow, total, sequence_fits}
+use Rattle.rt_check_bodies_laws.proofs.Sequences.{settled, mode_found, one_is_there, one_longer, pre_length, pre_get, Fine, fine_before, Goes, Known, lines, lines_grow, total, sequence_fits}
 
 -- ---- answers
 
@@ -135,9 +136,6 @@ module _ (c : Scope) (small : length c.locals < 65536) (standing : list_all (loc
   -- the mode of a local is that of a value
   pub local_value : (k : ℕ) (m : Mode) → slice_get c.locals k ≡ Some (made.Variable m) → IsValue m
   local_value k m e = passed_is_value (length c.records) m (all_at (local_stands (length c.records)) c.locals k (made.Variable m) standing e)
-
-  next_is : (t : Tally) → Fine c t → next_local t ≡ length t.locals
-  next_is t f = small_rest (length t.locals) (omega (arith, small, pre_length f.known))
 
   -- ---- the parts of a tree, by their forms
 
@@ -234,8 +232,8 @@ module _ (c : Scope) (small : length c.locals < 65536) (standing : list_all (loc
     call_alone h s seen k = record {
       certain = call_in_certain s (shown_knows c s seen k) h;
       fits = λ x e t.
-          let z = bound (alone (scope_of s) h) (λ v. Ok (stats.Call v)) x e in
-          let i = call_judged (scope_of s) c (agrees c s seen k.holds) h z.value z.is in
+          let z = bound (alone s h) (λ v. Ok (stats.Call v)) x e in
+          let i = call_judged s c (agrees c s seen k.holds) h z.value z.is in
           subst (λ (y : Stat). Goes c (stat_part c y) seen t t) (ok_stat (stats.Call z.value) x (Ok (stats.Call z.value)) refl z.gives)
           (ap (λ (p : Fitting). p seen (next_by t.labels (length t.locals))) (call_part z.value) ∙ rw i.1 refl);
     }
@@ -247,9 +245,9 @@ module _ (c : Scope) (small : length c.locals < 65536) (standing : list_all (loc
     assign_alone h e s seen k = record {
       certain = assign_certain s (shown_knows c s seen k) h e;
       fits = λ x q t.
-          let z = assigned_by s (target (scope_of s) h) e x q in
-          let may = target_judged (scope_of s) c (agrees c s seen k.holds) h (z.place, z.mode) z.target in
-          let suit = value_judged (scope_of s) c (agrees c s seen k.holds) e z.mode z.value may.1 z.given in
+          let z = assigned_by s (target s h) e x q in
+          let may = target_judged s c (agrees c s seen k.holds) h (z.place, z.mode) z.target in
+          let suit = value_judged s c (agrees c s seen k.holds) e z.mode z.value may.1 z.given in
           subst (λ (w : Stat). Goes c (stat_part c w) seen t t) z.is (assigned_goes z.place z.mode z.value seen t may.0 suit);
     }
 
@@ -257,9 +255,9 @@ module _ (c : Scope) (small : length c.locals < 65536) (standing : list_all (loc
     val_alone h e at s seen k = record {
       certain = assign_val_certain s (shown_knows c s seen k) at h e;
       fits = λ x q t.
-          let z = assigned_by s (val_target (scope_of s) at h) e x q in
-          let may = val_judged (scope_of s) c (agrees c s seen k.holds) at h (z.place, z.mode) z.target in
-          let suit = value_judged (scope_of s) c (agrees c s seen k.holds) e z.mode z.value may.1 z.given in
+          let z = assigned_by s (val_target s at h) e x q in
+          let may = val_judged s c (agrees c s seen k.holds) at h (z.place, z.mode) z.target in
+          let suit = value_judged s c (agrees c s seen k.holds) e z.mode z.value may.1 z.given in
           subst (λ (w : Stat). Goes c (stat_part c w) seen t t) z.is (assigned_goes z.place z.mode z.value seen t may.0 suit);
     }
 
@@ -284,7 +282,7 @@ module _ (c : Scope) (small : length c.locals < 65536) (standing : list_all (loc
       certain = returned_certain s (shown_knows c s seen k) (answer.Wanted m) (Some n) q (Some e) at;
       fits = λ x h t.
           let z = returned_value (value_in s e m) x h in
-          let suit : suits n (valued c z.0) ≡ true = subst (λ (w : Mode). suits w (valued c z.0) ≡ true) q.0 (value_judged (scope_of s) c (agrees c s seen k.holds) e m z.0 q.1 z.1) in
+          let suit : suits n (valued c z.0) ≡ true = subst (λ (w : Mode). suits w (valued c z.0) ≡ true) q.0 (value_judged s c (agrees c s seen k.holds) e m z.0 q.1 z.1) in
           subst (λ (w : Stat). Goes c (stat_part c w) seen t t) z.2 (ap (λ (w : Fitting). w seen (next_by t.labels (length t.locals))) (value_part z.0) ∙ rw (p, suit) refl);
     }
     return_by (answer.Wanted m) e at s seen None p k q = absurd q
@@ -301,7 +299,7 @@ module _ (c : Scope) (small : length c.locals < 65536) (standing : list_all (loc
     int_found : (s : Sight) (seen : Seen) (e : Expr) (t : Tally) → Shown c s seen → (int_in s e t).1.faults ≡ [] → Int s e t
     int_found s seen e t k f =
         let z = settled (values.Number 0) (value_in s e mode.Int) t (value_certain s (shown_knows c s seen k) e mode.Int) f in
-        record { value = z.value; gives = z.gives; is_one = int_judged (scope_of s) c (agrees c s seen k.holds) e z.value z.is }
+        record { value = z.value; gives = z.gives; is_one = int_judged s c (agrees c s seen k.holds) e z.value z.is }
 
     pub record AnyInt (s : Sight) (e : Option Expr) (t : Tally) : Type 0 where
       pub value : Option Value
@@ -444,7 +442,7 @@ module _ (c : Scope) (small : length c.locals < 65536) (standing : list_all (loc
           let moved : sequence s (lines c r ks) u.1 ≡ back = ap (λ (y : Test × Tally). sequence s (lines c r ks) y.1) z.gives in
           let fine : Fine c back.1 = subst (λ (y : List Labelled × Tally). Fine c y.1) moved f in
           let go = sequence_fits c r ks s seen t k q fine b in
-          let fit = test_judged (scope_of s) c (agrees c s seen k.holds) d z.value j z.is in
+          let fit = test_judged s c (agrees c s seen k.holds) d z.value j z.is in
           let is_test : u.0 ≡ z.value = ap (λ (y : Test × Tally). y.0) z.gives in (
             ap (λ (x : Test). stat_part c (stats.While x (sequence s (lines c r ks) u.1).0) seen (next_by t.labels (length t.locals))) is_test
                 ∙ ap (λ (y : List Labelled × Tally). stat_part c (stats.While z.value y.0) seen (next_by t.labels (length t.locals))) moved
@@ -466,10 +464,8 @@ module _ (c : Scope) (small : length c.locals < 65536) (standing : list_all (loc
           ap (λ (y : Value × Tally). let m = three_locals y.1 in (stats.To m.0 y.0 (sequence s (lines c r ks) m.1).0, (sequence s (lines c r ks) m.1).1)) z.gives in
           let fine : Fine c (sequence s (lines c r ks) n.1).1 = subst (λ (y : Stat × Tally). Fine c y.1) moved f in
           let fine_n : Fine c n.1 = fine_before c (grow_sequence s (lines c r ks) (lines_grow c r ks) n.1) fine in
-          let go = sequence_fits c r ks s seen n.1 k q fine b in
-          let number : n.0 ≡ length t.locals = next_is t (fine_before c (before_three t) fine_n) in (
+          let go = sequence_fits c r ks s seen n.1 k q fine b in (
             ap (λ (y : Stat × Tally). stat_part c y.0 seen (next_by t.labels (length t.locals))) moved
-                ∙ ap (λ (i : ℕ). stat_part c (stats.To i z.value (sequence s (lines c r ks) n.1).0) seen (next_by t.labels (length t.locals))) number
                 ∙ ap (λ (w : Fitting). w seen (next_by t.labels (length t.locals))) (to_part (length t.locals) z.value (sequence s (lines c r ks) n.1).0)
                 ∙ rw (z.is_one, three_here t fine_n) go.0 ∙ sym (ap (λ (y : Stat × Tally). Some (next_by y.1.labels (length y.1.locals))) moved),
             ap (λ (y : Stat × Tally). y.1.labels) moved ∙ go.1,
@@ -532,12 +528,10 @@ module _ (c : Scope) (small : length c.locals < 65536) (standing : list_all (loc
           ap (λ (y : Bounds × Tally). let m = three_locals y.1 in (stats.For m.0 y.0.start y.0.step y.0.end (sequence (within (variable_of d m.0) s) (lines c r ks) m.1).0, (sequence (within (variable_of d m.0) s) (lines c r ks) m.1).1)) z.gives in
           let fine : Fine c (body n.0).1 = subst (λ (y : Stat × Tally). Fine c y.1) moved f in
           let fine_n : Fine c n.1 = fine_before c (grow_sequence (within (variable_of d n.0) s) (lines c r ks) (lines_grow c r ks) n.1) fine in
-          let number : n.0 ≡ length t.locals = next_is t (fine_before c (before_three t) fine_n) in
-          let entry : EntryHolds c seen (d.name.name, meaning.Loop n.0) = (ap (slice_get c.locals) number ∙ loop_there t fine_n, tt) in
+          let entry : EntryHolds c seen (d.name.name, meaning.Loop n.0) = (loop_there t fine_n, tt) in
           let inside = shown_within c s seen (variable_of d n.0) k (declared_holds c seen d.name.name (meaning.Loop n.0) [] tt entry) (tt, tt) in
           let go = sequence_fits c r ks (within (variable_of d n.0) s) seen n.1 inside q fine b in (
             ap (λ (y : Stat × Tally). stat_part c y.0 seen (next_by t.labels (length t.locals))) moved
-                ∙ ap (λ (i : ℕ). stat_part c (stats.For i z.start z.step z.end (body n.0).0) seen (next_by t.labels (length t.locals))) number
                 ∙ ap (λ (w : Fitting). w seen (next_by t.labels (length t.locals))) (for_part (length t.locals) z.start z.step z.end (body n.0).0)
                 ∙ rw (z.ints, three_here t fine_n) go.0 ∙ sym (ap (λ (y : Stat × Tally). Some (next_by y.1.labels (length y.1.locals))) moved),
             ap (λ (y : Stat × Tally). y.1.labels) moved ∙ go.1,
@@ -592,7 +586,7 @@ module _ (c : Scope) (small : length c.locals < 65536) (standing : list_all (loc
           let moved : sequence s (lines c r ks) u.1 ≡ back = ap (λ (y : Test × Tally). sequence s (lines c r ks) y.1) z.gives in
           let fine : Fine c back.1 = subst (λ (y : List Labelled × Tally). Fine c y.1) moved f in
           let go = sequence_fits c r ks s seen t k q fine b in
-          let fit = test_judged (scope_of s) c (agrees c s seen k.holds) d z.value j z.is in
+          let fit = test_judged s c (agrees c s seen k.holds) d z.value j z.is in
           let is_test : u.0 ≡ z.value = ap (λ (y : Test × Tally). y.0) z.gives in (
             ap (λ (x : Test). branch_part c (roll-Branched (record { test = x; taken = (sequence s (lines c r ks) u.1).0 })) seen (next_by t.labels (length t.locals))) is_test
                 ∙ ap (λ (y : List Labelled × Tally). branch_part c (roll-Branched (record { test = z.value; taken = y.0 })) seen (next_by t.labels (length t.locals))) moved
@@ -628,7 +622,7 @@ module _ (c : Scope) (small : length c.locals < 65536) (standing : list_all (loc
         record { value = None; gives = ap (λ (y : Tally). (None, y)) z.0; fits = z.1 }
     start_found s seen n m (Some e) t k v f =
         let z = settled (values.Number 0) (value_in s e m) t (value_certain s (shown_knows c s seen k) e m) f in
-        record { value = Some z.value; gives = ap (λ (y : Value × Tally). (Some y.0, y.1)) z.gives; fits = value_judged (scope_of s) c (agrees c s seen k.holds) e m z.value v z.is }
+        record { value = Some z.value; gives = ap (λ (y : Value × Tally). (Some y.0, y.1)) z.gives; fits = value_judged s c (agrees c s seen k.holds) e m z.value v z.is }
 
     pub record DeclaredFits (d : Declared) (seen : Seen) (t : Tally) (result : Declared × Tally) : Type 0 where
       pub starts : List LocalStart
@@ -655,16 +649,14 @@ module _ (c : Scope) (small : length c.locals < 65536) (standing : list_all (loc
         let moved : local_fit m d n t ≡ placed (next_local t) m z.value d n t = ap (λ (y : Option Value × Tally). placed (next_local y.1) m y.0 d n y.1) z.gives in
         let w : Declared × Tally = placed (next_local t) m z.value d n t in
         let fine_w : Fine c w.1 = subst (λ (y : Declared × Tally). Fine c y.1) moved f in
-        let fine_t : Fine c t = fine_before c (grow_placed (next_local t) m z.value d n t) fine_w in
-        let number : next_local t ≡ length t.locals = next_is t fine_t in
         let locals_are : w.1.locals ≡ t.locals ++ made.Variable m ∷ [] = ap (λ (l : List Made). l ++ made.Variable m ∷ []) (noted_locals _ _ t) in
         let there : slice_get c.locals (length t.locals) ≡ Some (made.Variable m) = pre_get t.locals (made.Variable m) c.locals (subst (λ (l : List Made). Pre l c.locals) locals_are fine_w.known) in
         let count : suc (length t.locals) ≡ length w.1.locals = sym (one_longer t.locals (made.Variable m)) ∙ ap length (sym locals_are) in
-        let entry : EntryHolds c seen (n.name.name, meaning.Local (next_local t) m) = ((ap (slice_get c.locals) number ∙ there, v), tt) in
+        let entry : EntryHolds c seen (n.name.name, meaning.Local (next_local t) m) = ((there, v), tt) in
         let labels_are : w.1.labels ≡ t.labels = noted_labels _ _ t in
         record {
           starts = record { local = length t.locals; start = z.value } ∷ [];
-          is = ap (λ (y : Declared × Tally). y.0.starts) moved ∙ ap (λ (i : ℕ). d.starts ++ record { local = i; start = z.value } ∷ []) number;
+          is = ap (λ (y : Declared × Tally). y.0.starts) moved;
           goes = one_declared (length t.locals) z.value m [] t.labels there z.fits ∙ next_moved t.labels w.1.labels (suc (length t.locals)) (length w.1.locals) (sym labels_are) count ∙ sym (ap (λ (y : Declared × Tally). Some (next_by y.1.labels (length y.1.locals))) moved);
           holds = subst (λ (y : Declared × Tally). Shown c y.0.sight seen) (sym moved) (shown_named c d.sight seen n.name.name (meaning.Local (next_local t) m) k entry tt);
           labels = ap (λ (y : Declared × Tally). y.1.labels) moved ∙ labels_are;

@@ -28,7 +28,8 @@ use Rattle.rt_tree.specs.Statements as tree
 use Rattle.rt_tree.specs.Statements.{Sight as Seen, Part as Fitting, next_by, Marked, labels_end, body_part, marked, closed, declares}
 use Rattle.rt_check_bodies.specs.declared.tally.Tally.{Tally}
 use Rattle.rt_check_bodies.specs.Parts.{noted_if, next_local, mode_or}
-use Rattle.rt_check_bodies.specs.Sights.{Names, Sight, within, mode_in}
+use Rattle.rt_exprs.specs.Sights.{Names, Sight, within}
+use Rattle.rt_check_bodies.specs.Sights.{mode_in}
 use Rattle.rt_check_bodies.specs.declared.answer.Answer.{Answer}
 use Rattle.rt_check_bodies.specs.declared.answer.Answer.TheVariants as answer
 use Rattle.rt_bricks_laws.specs.Bodies.{labels_in_body, body_is_broad}
@@ -38,7 +39,7 @@ use Rattle.rt_check_bodies_laws.proofs.Growing.{Pre, pre_same, Grew, grew_same, 
 use Rattle.rt_check_bodies_laws.specs.Held.{Holds, LevelHolds, IsKnown, LevelKnown, AllKnown, ResultIs}
 use Rattle.rt_check_bodies_laws.proofs.Each.{declared_each}
 use Rattle.rt_check_bodies_laws.proofs.Holding.{shown_within, declared_holds}
-use Rattle.rt_check_bodies_laws.proofs.Sequences.{mode_found, one_is_there, pre_length, pre_get, small_rest, Fine, fine_before}
+use Rattle.rt_check_bodies_laws.proofs.Sequences.{mode_found, one_is_there, pre_length, pre_get, Fine, fine_before}
 use Rattle.rt_check_bodies_laws.proofs.Accepted.{local_value, body_accepted}
 
 grow_noted : (b : Bool) (g : CheckFault) (t : Tally) → Grew t (noted_if b g t)
@@ -100,9 +101,8 @@ module _ (c : Scope) (small : length c.locals < 65536) (standing : list_all (loc
   one_named l n m seen t h k f =
       let here : (named l n (Ok m) t).1.locals ≡ t.locals ++ made.Variable m ∷ [] = ap (λ (x : List Made). x ++ made.Variable m ∷ []) (noted_locals _ _ t) in
       let there = pre_get t.locals (made.Variable m) c.locals (subst (λ (x : List Made). Pre x c.locals) here f.known) in
-      let number : next_local t ≡ length t.locals = small_rest (length t.locals) (omega (arith, small, pre_length (fine_before c (grow_named l n (Ok m) t) f).known)) in
       record {
-        level = declared_holds c seen n.name (meaning.Local (next_local t) m) l h ((ap (slice_get c.locals) number ∙ there, local_value c small standing (length t.locals) m there), tt);
+        level = declared_holds c seen n.name (meaning.Local (next_local t) m) l h ((there, local_value c small standing (length t.locals) m there), tt);
         known = declared_each IsKnown n.name (meaning.Local (next_local t) m) l k tt;
         labels = noted_labels _ _ t;
       }

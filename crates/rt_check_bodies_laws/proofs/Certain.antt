@@ -23,7 +23,7 @@ use Rattle.rt_exprs.specs.declared.fault.CheckFault.TheVariants as fault
 use Rattle.rt_exprs.specs.declared.operand.Standing.TheVariants as standing
 use Rattle.rt_exprs.specs.declared.scope.Meaning.{Meaning}
 use Rattle.rt_exprs.specs.declared.scope.Meaning.TheVariants as meaning
-use Rattle.rt_exprs.specs.declared.scope.Scope.{Scope}
+use Rattle.rt_exprs.specs.Sights.{Sight}
 use Rattle.rt_exprs.specs.Modes.{Want, want}
 use Rattle.rt_exprs.specs.Names.{find}
 use Rattle.rt_exprs.specs.Operands.{Is, place, loop, brick, result, done, Judged, field_in, field_from, as_word, is_label, suits_as, fits, by_itself}
@@ -34,7 +34,7 @@ use Rattle.rt_exprs_laws.proofs.Links.{field_found, item_of_all}
 use Rattle.rt_exprs_laws.proofs.Standing.{stands_at}
 use Rattle.rt_check_bodies.specs.declared.answer.Answer.{Answer}
 use Rattle.rt_check_bodies.specs.declared.answer.Answer.TheVariants as answer
-use Rattle.rt_check_bodies.specs.Sights.{Sight, scope_of, value_in, alone_in, assigning, assigned_in, assignment_in, val_assignment_in, call_in, test_in, label_in, label_by}
+use Rattle.rt_check_bodies.specs.Sights.{value_in, alone_in, assigning, assigned_in, assignment_in, val_assignment_in, call_in, test_in, label_in, label_by}
 use Rattle.rt_check_bodies.specs.Statements.{returned, return_of}
 use Rattle.rt_check_bodies_laws.specs.Held.{IsKnown, AllKnown, ResultIs}
 use Rattle.rt_check_bodies_laws.proofs.Knowing.{Knows, Certain, Sure, then_certain, both_certain, after_certain, known_if, suits_certain, fits_certain, expr_sure, whole_chain_sure}
@@ -85,7 +85,7 @@ nowhere_certain at (Ok j) = refl
 nowhere_certain at (Err fault.Unknown) = refl
 nowhere_certain at (Err _) = refl
 
-module _ (s : Scope) (a : Knows s) where
+module _ (s : Sight) (a : Knows s) where
   -- ---- places
 
   place_sure : (t : Outcome Judged) → Sure t → SureTarget (t >>= assigned)
@@ -155,32 +155,32 @@ label_by_certain at (Some (meaning.Svc k m)) = own (k == 0) where
 label_by_certain at (Some _) = refl
 
 pub label_certain : (s : Sight) (n : Ident) → Certain (label_in s n)
-label_certain s n = label_by_certain n.at (find (scope_of s) n.name)
+label_certain s n = label_by_certain n.at (find s n.name)
 
 given_back : (t : Outcome Value) → Certain t → Certain (return_of t)
 given_back (Ok x) h = tt
 given_back (Err g) h = h
 
-module _ (s : Sight) (a : Knows (scope_of s)) where
+module _ (s : Sight) (a : Knows s) where
   pub value_certain : (e : Expr) (m : Mode) → Certain (value_in s e m)
-  value_certain e m = fits_certain (judged (scope_of s) e) (want m) (expr_sure (scope_of s) a e)
+  value_certain e m = fits_certain (judged s e) (want m) (expr_sure s a e)
 
   pub assign_certain : (c : Chain) (e : Expr) → Certain (assignment_in s c e)
-  assign_certain c e = assigned_certain s (target (scope_of s) c) e (target_sure (scope_of s) a c) (value_certain e)
+  assign_certain c e = assigned_certain s (target s c) e (target_sure s a c) (value_certain e)
 
   pub assign_val_certain : (at : At) (c : Chain) (e : Expr) → Certain (val_assignment_in s at c e)
-  assign_val_certain at c e = assigned_certain s (val_target (scope_of s) at c) e (val_sure (scope_of s) a at (judged_chain (scope_of s) c) (whole_chain_sure (scope_of s) a c)) (value_certain e)
+  assign_val_certain at c e = assigned_certain s (val_target s at c) e (val_sure s a at (judged_chain s c) (whole_chain_sure s a c)) (value_certain e)
 
   pub call_in_certain : (c : Chain) → Certain (call_in s c)
   call_in_certain c =
-      then_certain (alone (scope_of s) c) (λ x. Ok (stats.Call x)) (call_certain (out-Chain c).at (ends_in_apply (out-Chain c).links) (judged_chain (scope_of s) c) (whole_chain_sure (scope_of s) a c)) (λ x. tt)
+      then_certain (alone s c) (λ x. Ok (stats.Call x)) (call_certain (out-Chain c).at (ends_in_apply (out-Chain c).links) (judged_chain s c) (whole_chain_sure s a c)) (λ x. tt)
 
   pub test_certain : (c : Cond) → Certain (test_in s c)
-  test_certain c = tested_certain (scope_of s) a c
+  test_certain c = tested_certain s a c
 
   pub returned_certain : (r : Answer) (res : Option Mode) → ResultIs r res → (e : Option Expr) (at : At) → Certain (returned r s e at)
   returned_certain answer.Nothing None q None at = tt
-  returned_certain answer.Nothing None q (Some e) at = nowhere_certain (begins_at (out-Expr e)) (judged (scope_of s) e)
+  returned_certain answer.Nothing None q (Some e) at = nowhere_certain (begins_at (out-Expr e)) (judged s e)
   returned_certain answer.Nothing (Some n) q e at = absurd q
   returned_certain (answer.Wanted m) None q e at = absurd q
   returned_certain (answer.Wanted m) (Some n) q None at = refl
@@ -208,7 +208,7 @@ no_label m h = by_layer (out-Mode m) refl where
   by_layer Mode-F.Label o = absurd (let bad : false ≡ true = sym (ap (λ x. x.item) (stands_at m Mode-F.Label o)) ∙ h in cc)
   by_layer _ o = refl
 
-pub sight_knows : (c : Tree) (s : Sight) → s.records ≡ c.records → ((r : ℕ) (d : RecordDef) → slice_get c.records r ≡ Some d → HasItems d) → AllKnown s → Knows (scope_of s)
+pub sight_knows : (c : Tree) (s : Sight) → s.records ≡ c.records → ((r : ℕ) (d : RecordDef) → slice_get c.records r ≡ Some d → HasItems d) → AllKnown s → Knows s
 sight_knows c s records fields known = record {
   names = λ n m e. found_each IsKnown n s.levels m known e;
   fields = λ r k n m e. no_label m (field_item r k n m (slice_get s.records r) (λ d q. fields r d (sym (ap (λ (rs : List RecordDef). slice_get rs r) records) ∙ q)) e);

@@ -25,7 +25,7 @@ use Rattle.rt_tree_nodes.specs.Tree.{Cond, Is as Compared, Both, Either}
 use Rattle.rt_tree_nodes.specs.Typing.{placed}
 use Rattle.rt_exprs.specs.declared.fault.CheckFault.TheVariants as fault
 use Rattle.rt_exprs.specs.declared.operand.Standing.TheVariants as standing
-use Rattle.rt_exprs.specs.declared.scope.Scope.{Scope as Names}
+use Rattle.rt_exprs.specs.Sights.{Sight}
 use Rattle.rt_exprs.specs.Modes.{Want, basic, ref, row, want, want_by}
 use Rattle.rt_exprs.specs.Operands.{Is, text, place, loop, result, done}
 use Rattle.rt_exprs.specs.Outcomes.{Outcome}
@@ -178,7 +178,7 @@ module _ (c : Scope) where
   called_within at (done v) x k h e = subst (λ (z : Value). CallWithin k (tree_of c z)) (same_value v x _ refl e) h
   called_within at _ x k h e = absurd cc
 
-  module _ (s : Names) (agree : Agree s c) (few : AllFew c) where
+  module _ (s : Sight) (agree : Agree s c) (few : AllFew c) where
     pub assigns_within : {h : Chain} {x : Place × Mode} → Assigns s h x → SpotWithin (in_chain h) (placed c x.0).tree
     assigns_within {h = h} (f.assigns {f = g} {p = p} {m = m} b i e) = assigned_within g.at g.is p m (in_chain h) (chain_within c s agree few i) e
 

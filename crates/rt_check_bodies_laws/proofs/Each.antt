@@ -10,7 +10,7 @@ use Rattle.rt_exprs.specs.Names.{find_in}
 use Rattle.rt_exprs.specs.Operands.{or_else}
 use Rattle.rt_check_bodies.specs.declared.tally.Tally.{Tally}
 use Rattle.rt_check_bodies.specs.Parts.{label_more, labels_more}
-use Rattle.rt_check_bodies.specs.Sights.{Names, Sight, holds, declared, innermost, with_name, level_of, lent_name}
+use Rattle.rt_exprs.specs.Sights.{Names, Sight, holds, declared, innermost, with_name}
 use Rattle.rt_check_bodies.specs.Statements.{labels_of}
 
 some_is : (a b : Meaning) → Some a ≡ Some b → a ≡ b
@@ -31,19 +31,19 @@ module _ (P : Meaning → Type 0) where
   by_name x o rest true h go q = subst P (some_is x o q) h
   by_name x o rest false h go q = go q
 
-  looked_up : (w : List ℕ) (l : Names) (m : Meaning) → EachOf l → lookup (λ k. bytes_eq w k.now) (map lent_name l) ≡ Some m → P m
+  looked_up : (w : List ℕ) (l : Names) (m : Meaning) → EachOf l → lookup (bytes_eq w) l ≡ Some m → P m
   looked_up w [] m h e = absurd cc
-  looked_up w (x ∷ xs) m h e = by_name x.1 m (lookup (λ k. bytes_eq w k.now) (map lent_name xs)) (bytes_eq w x.0) h.0 (looked_up w xs m h.1) e
+  looked_up w (x ∷ xs) m h e = by_name x.1 m (lookup (bytes_eq w) xs) (bytes_eq w x.0) h.0 (looked_up w xs m h.1) e
 
-  found_split : (w : List ℕ) (l : Names) (ls : List Names) (m : Meaning) (o : Option Meaning) → lookup (λ k. bytes_eq w k.now) (map lent_name l) ≡ o → EachOf l → or_else o (find_in (map level_of ls) w) ≡ Some m
-      → (find_in (map level_of ls) w ≡ Some m → P m) → P m
+  found_split : (w : List ℕ) (l : Names) (ls : List Names) (m : Meaning) (o : Option Meaning) → lookup (bytes_eq w) l ≡ o → EachOf l → or_else o (find_in ls w) ≡ Some m
+      → (find_in ls w ≡ Some m → P m) → P m
   found_split w l ls m (Some x) p h e go = looked_up w l m h (p ∙ e)
   found_split w l ls m None p h e go = go e
 
-  pub found_each : (w : List ℕ) (ls : List Names) (m : Meaning) → EachSeen ls → find_in (map level_of ls) w ≡ Some m → P m
+  pub found_each : (w : List ℕ) (ls : List Names) (m : Meaning) → EachSeen ls → find_in ls w ≡ Some m → P m
   unfolding find_in
   found_each w [] m h e = absurd cc
-  found_each w (l ∷ ls) m h e = found_split w l ls m (lookup (λ k. bytes_eq w k.now) (map lent_name l)) refl h.0 e (found_each w ls m h.1)
+  found_each w (l ∷ ls) m h e = found_split w l ls m (lookup (bytes_eq w) l) refl h.0 e (found_each w ls m h.1)
 
   -- ---- more names
 

@@ -53,7 +53,8 @@ use Rattle.rt_check_bodies.specs.declared.plain.Bounds.{Bounds}
 use Rattle.rt_check_bodies.specs.declared.tally.Tally.{Tally}
 use Rattle.rt_check_bodies.specs.Parts.{Part, noted, noted_known, noted_if, noted_twice, found_or, label_or, test_or, mode_or, three_locals, label_more, labels_more, labels_in, numbers_from}
 use Rattle.rt_check_bodies.specs.Procedures.{named, group, parameters, answer_in, is_wanted, closed_at, nothing_yet}
-use Rattle.rt_check_bodies.specs.Sights.{Names, Sight, holds, innermost, within, scope_of, alone_in, value_in, assignment_in, val_assignment_in, call_in, test_in, label_in, variable_by, mode_in}
+use Rattle.rt_exprs.specs.Sights.{Names, Sight, holds, innermost, within}
+use Rattle.rt_check_bodies.specs.Sights.{alone_in, value_in, assignment_in, val_assignment_in, call_in, test_in, label_in, variable_by, mode_in}
 use Rattle.rt_check_bodies.specs.Statements as spec
 use Rattle.rt_check_bodies.specs.Statements.{Line, Declared, JudgedStat, JudgedBody, JudgedBranch, labels_of, labels_at, labelled, in_order, sequence, start_in, start_alone, placed, local_more, locals_more, line_more, declarations, before, branches, bounds_in, variable_of, for_loop, to_loop, int_in, any_int_in, returned}
 use Rattle.rt_check_bodies_laws.specs.Faults.{FaultsAreKnown}
@@ -61,10 +62,10 @@ use Rattle.rt_check_bodies_laws.proofs.Knowing.{Certain, then_certain}
 use Rattle.rt_check_bodies_laws.proofs.Real.{real_left}
 
 -- none of them is what can't be known
-abbrev AreKnown : List CheckFault → Type 0
+abbrev pub AreKnown : List CheckFault → Type 0
 AreKnown = AllByRecursion (λ g. is_unknown g ≡ false)
 
-one_of : (gs : List CheckFault) (g : CheckFault) → AreKnown gs → IsIn g gs → is_unknown g ≡ false
+pub one_of : (gs : List CheckFault) (g : CheckFault) → AreKnown gs → IsIn g gs → is_unknown g ≡ false
 one_of [] g h i = absurd i
 one_of (x ∷ xs) g h i = elim i [
   | inl e ↦ rw e h.0
@@ -81,11 +82,11 @@ joined (x ∷ xs) gs g h n k = (h.0, joined xs gs g h.1 n k)
 
 -- ---- modes that are written
 
-abbrev KnownIn : {A : Type 0} → Verdict A → Type 0
+abbrev pub KnownIn : {A : Type 0} → Verdict A → Type 0
 KnownIn (fit a) = Unit {0}
 KnownIn (unfit f fs) = (is_unknown f ≡ false) × AreKnown fs
 
-then_known : {A B : Type 0} (v : Verdict A) (q : A → Verdict B) → KnownIn v → ((a : A) → KnownIn (q a)) → KnownIn (v >>= q)
+pub then_known : {A B : Type 0} (v : Verdict A) (q : A → Verdict B) → KnownIn v → ((a : A) → KnownIn (q a)) → KnownIn (v >>= q)
 then_known (fit a) q h g = g a
 then_known (unfit f fs) q h g = h
 
@@ -171,7 +172,7 @@ module _ (names : Seen) where
   rolled : (l : WrittenMode-F WrittenMode) → out-WrittenMode (roll-WrittenMode l) ≡ l
   rolled l = search written_lemmas.the_lemmas
 
-  written_known : (w : WrittenMode) → Q w
+  pub written_known : (w : WrittenMode) → Q w
   written_known = ind-WrittenMode Q (λ x y is. level (roll-WrittenMode x) y (rolled x ∙ sym is))
 
 variable_certain : (at : At) (r : Resolved) → Certain (variable_by at r)
@@ -181,8 +182,8 @@ variable_certain at resolved.BadLength = refl
 -- the fault of a mode that is written
 mode_certain : (s : Sight) (at : At) (w : WrittenMode) → Certain (mode_in s at w)
 mode_certain s at w =
-    let v : Verdict Resolved = written (find (scope_of s)) w site.Variable in
-    then_certain (outcome v) (variable_by at) (outcome_known v (then_known (judged (find (scope_of s)) w site.Variable) (λ m. fit (counted m)) (written_known (find (scope_of s)) w site.Variable) (λ m. tt))) (variable_certain at)
+    let v : Verdict Resolved = written (find s) w site.Variable in
+    then_certain (outcome v) (variable_by at) (outcome_known v (then_known (judged (find s) w site.Variable) (λ m. fit (counted m)) (written_known (find s) w site.Variable) (λ m. tt))) (variable_certain at)
 
 -- ---- what is noted
 

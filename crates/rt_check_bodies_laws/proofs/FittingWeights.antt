@@ -24,7 +24,7 @@ use Rattle.rt_exprs.specs.declared.operand.Standing.{Standing}
 use Rattle.rt_exprs.specs.declared.operand.Standing.TheVariants as standing
 use Rattle.rt_exprs.specs.declared.scope.Meaning.{Meaning}
 use Rattle.rt_exprs.specs.declared.scope.Meaning.TheVariants as meaning
-use Rattle.rt_exprs.specs.declared.scope.Scope.{Scope as Names}
+use Rattle.rt_exprs.specs.Sights.{Sight}
 use Rattle.rt_exprs.specs.Modes.{Want, basic, want}
 use Rattle.rt_exprs.specs.Names.{find}
 use Rattle.rt_exprs.specs.Operands.{Is, brick, place, loop, Found, named, suits_by}
@@ -112,7 +112,7 @@ module _ (c : Scope) where
   pub suits_as : (at : At) (is : Is) (w : Want) (m : Mode) (k : ℕ) (x : Value) → want m ≡ w → IsTyped c is → Within c k is → suits_by at is w ≡ Ok x → ValueWithin k (tree_of c x)
   suits_as at is w m k x i t h e = suits_within c at is m k x t h (subst (λ (z : Want). suits_by at is z ≡ Ok x) (sym i) e)
 
-  module _ (s : Names) (agree : Agree s c) (all : AllFew c) where
+  module _ (s : Sight) (agree : Agree s c) (all : AllFew c) where
     -- ---- names
 
     svc_within : (at : At) (k : ℕ) (m : Mode) (is : Is) (b : Bool) → (k == 0) ≡ b → (if b then Err (fault.LeftOut 2 at) else Ok (place (places.Svc k) m standing.Private)) ≡ Ok is → IsThere c (meaning.Svc k m) → Within c 1 is

@@ -28,7 +28,8 @@ use Rattle.rt_tree.specs.Statements.{Sight as Seen, call_tree, assigned_tree, st
 use Rattle.rt_syntax_exprs.specs.Joins.{joins_two}
 use Rattle.rt_check_bodies.specs.declared.tally.Tally.{Tally}
 use Rattle.rt_check_bodies.specs.Parts.{found_or, value_or, stat_or, return_or, test_or, label_or, labels_in}
-use Rattle.rt_check_bodies.specs.Sights.{Sight, scope_of, value_in, assignment_in, val_assignment_in, call_in, test_in, label_in}
+use Rattle.rt_exprs.specs.Sights.{Sight}
+use Rattle.rt_check_bodies.specs.Sights.{value_in, assignment_in, val_assignment_in, call_in, test_in, label_in}
 use Rattle.rt_check_bodies.specs.declared.answer.Answer.{Answer}
 use Rattle.rt_check_bodies.specs.declared.answer.Answer.TheVariants as answer
 use Rattle.rt_check_bodies.specs.Statements.{JudgedStat, int_in, any_int_in, goto, switch, returned, return_of}
@@ -125,21 +126,21 @@ module _ (other : Stat) (o : Sight → Outcome Stat) (n : ℕ) where
 pub call_good : (h : Chain) → StatGood (λ s. stat_or (call_in s h)) (in_chain h)
 call_good h = found_good (stats.Call (values.Number 0)) (λ s. call_in s h) (in_chain h) (λ c. nothing_called c (in_chain h) (chain_some h))
     (λ c few s seen k x e.
-    let z = bound (alone (scope_of s) h) (λ v. Ok (stats.Call v)) x e in
+    let z = bound (alone s h) (λ v. Ok (stats.Call v)) x e in
     subst (λ (y : Stat). StatementWithin (in_chain h) (stat_of c y)) (ok_stat (stats.Call z.value) x (Ok (stats.Call z.value)) refl z.gives)
     (rw made_call (call_within (in_chain h) (valued c z.value) (call_judged c few s seen k h z.value z.is))))
 
 pub assign_good : (h : Chain) (e : Expr) → StatGood (λ s. stat_or (assignment_in s h e)) (in_chain h + (1 + in_expr e))
 assign_good h e = found_good (stats.Call (values.Number 0)) (λ s. assignment_in s h e) (in_chain h + (1 + in_expr e)) (λ c. nothing_called c (in_chain h + (1 + in_expr e)) (omega arith))
     (λ c few s seen k x q.
-    let z = assigned_by s (target (scope_of s) h) e x q in
+    let z = assigned_by s (target s h) e x q in
     subst (λ (w : Stat). StatementWithin (in_chain h + (1 + in_expr e)) (stat_of c w)) z.is
     (rw made_assign (assigned_within (in_chain h + (1 + in_expr e)) (placed c z.place) (valued c z.value).tree (in_chain h) (in_expr e) refl (target_judged c few s seen k h (z.place, z.mode) z.target) (value_judged c few s seen k e z.mode z.value z.given))))
 
 pub assign_val_good : (at : At) (h : Chain) (e : Expr) → StatGood (λ s. stat_or (val_assignment_in s at h e)) (1 + (in_chain h + (1 + in_expr e)))
 assign_val_good at h e = found_good (stats.Call (values.Number 0)) (λ s. val_assignment_in s at h e) (1 + (in_chain h + (1 + in_expr e))) (λ c. nothing_called c (1 + (in_chain h + (1 + in_expr e))) (omega arith))
     (λ c few s seen k x q.
-    let z = assigned_by s (val_target (scope_of s) at h) e x q in
+    let z = assigned_by s (val_target s at h) e x q in
     subst (λ (w : Stat). StatementWithin (1 + (in_chain h + (1 + in_expr e))) (stat_of c w)) z.is
     (rw made_assign (assigned_within (1 + (in_chain h + (1 + in_expr e))) (placed c z.place) (valued c z.value).tree (1 + in_chain h) (in_expr e) (omega arith) (val_judged c few s seen k at h (z.place, z.mode) z.target) (value_judged c few s seen k e z.mode z.value z.given))))
 

@@ -16,7 +16,8 @@ use Rattle.rt_exprs.specs.declared.fault.CheckFault.TheVariants as fault
 use Rattle.rt_exprs.specs.Outcomes.{Outcome}
 use Rattle.rt_check_bodies.specs.declared.tally.Tally.{Tally}
 use Rattle.rt_check_bodies.specs.Parts.{Part, it_is, ◌>>=◌, noted, noted_known, noted_if, with_local, next_local, number_next, found_or, label_or, mode_or, three_locals, label_more, labels_more, labels_in, numbers_from}
-use Rattle.rt_check_bodies.specs.Sights.{Names, Sight, label_in, value_in, alone_in, within}
+use Rattle.rt_exprs.specs.Sights.{Names, Sight, within}
+use Rattle.rt_check_bodies.specs.Sights.{label_in, value_in, alone_in}
 use Rattle.rt_check_bodies.specs.Statements.{Line, Declared, labels_of, in_order, sequence, any_sequence, labels_at, labelled, int_in, any_int_in, start_in, start_alone, placed, local_more, locals_more, line_more, declarations, JudgedBranch, branches, bounds_in, for_loop, to_loop, goto, switch}
 
 pub record Pre {A : Type 0} (xs ys : List A) : Type 0 where

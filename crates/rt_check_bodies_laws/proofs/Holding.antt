@@ -19,7 +19,8 @@ use Rattle.rt_check_bodies_laws.specs.Held.{LabelSeen, EntryHolds, LevelHolds, L
 use Rattle.rt_check_bodies_laws.proofs.Knowing.{Knows}
 use Rattle.rt_check_bodies_laws.proofs.Certain.{sight_knows}
 use Rattle.rt_check_bodies_laws.proofs.Each.{one_more_each}
-use Rattle.rt_check_bodies.specs.Sights.{Names, Sight, holds, declared, within, innermost, with_name, scope_of, level_of, lent_name, label_in, label_by}
+use Rattle.rt_exprs.specs.Sights.{Names, Sight, holds, declared, within, innermost, with_name}
+use Rattle.rt_check_bodies.specs.Sights.{label_in, label_by}
 
 left_or : (a b : Bool) → a ≡ true → a || b ≡ true
 left_or true b e = refl
@@ -102,7 +103,7 @@ module _ (c : Scope) where
   pub shown_named : (s : Sight) (seen : Seen) (n : List ℕ) (m : Meaning) → Shown s seen → EntryHolds c seen (n, m) → IsKnown m → Shown (with_name n m s) seen
   shown_named s seen n m h e known = record { holds = holds_named s seen n m h.holds e; known = one_more_each IsKnown s n m h.known known }
 
-  pub shown_knows : (s : Sight) (seen : Seen) → Shown s seen → Knows (scope_of s)
+  pub shown_knows : (s : Sight) (seen : Seen) → Shown s seen → Knows s
   shown_knows s seen h = sight_knows c s h.holds.records h.holds.fields h.known
 
   -- ---- what a name stands for
@@ -117,21 +118,21 @@ module _ (c : Scope) where
   by_name seen x o rest true h go q = subst (Found seen) (some_is x o q) h
   by_name seen x o rest false h go q = go q
 
-  looked_up : (seen : Seen) (n : List ℕ) (l : Names) (m : Meaning) → LevelHolds c seen l → lookup (λ k. bytes_eq n k.now) (map lent_name l) ≡ Some m → Found seen m
+  looked_up : (seen : Seen) (n : List ℕ) (l : Names) (m : Meaning) → LevelHolds c seen l → lookup (bytes_eq n) l ≡ Some m → Found seen m
   looked_up seen n [] m h e = absurd cc
-  looked_up seen n (x ∷ xs) m h e = by_name seen x.1 m (lookup (λ k. bytes_eq n k.now) (map lent_name xs)) (bytes_eq n x.0) h.0 (looked_up seen n xs m h.1) e
+  looked_up seen n (x ∷ xs) m h e = by_name seen x.1 m (lookup (bytes_eq n) xs) (bytes_eq n x.0) h.0 (looked_up seen n xs m h.1) e
 
-  found_split : (seen : Seen) (n : List ℕ) (l : Names) (ls : List Names) (m : Meaning) (o : Option Meaning) → lookup (λ k. bytes_eq n k.now) (map lent_name l) ≡ o → LevelHolds c seen l
-      → or_else o (find_in (map level_of ls) n) ≡ Some m → (find_in (map level_of ls) n ≡ Some m → Found seen m) → Found seen m
+  found_split : (seen : Seen) (n : List ℕ) (l : Names) (ls : List Names) (m : Meaning) (o : Option Meaning) → lookup (bytes_eq n) l ≡ o → LevelHolds c seen l
+      → or_else o (find_in ls n) ≡ Some m → (find_in ls n ≡ Some m → Found seen m) → Found seen m
   found_split seen n l ls m (Some x) p h e go = looked_up seen n l m h (p ∙ e)
   found_split seen n l ls m None p h e go = go e
 
-  found_holds : (seen : Seen) (n : List ℕ) (ls : List Names) (m : Meaning) → LevelsHold c seen ls → find_in (map level_of ls) n ≡ Some m → Found seen m
+  found_holds : (seen : Seen) (n : List ℕ) (ls : List Names) (m : Meaning) → LevelsHold c seen ls → find_in ls n ≡ Some m → Found seen m
   unfolding find_in
   found_holds seen n [] m h e = absurd cc
-  found_holds seen n (l ∷ ls) m h e = found_split seen n l ls m (lookup (λ k. bytes_eq n k.now) (map lent_name l)) refl h.0 e (found_holds seen n ls m h.1)
+  found_holds seen n (l ∷ ls) m h e = found_split seen n l ls m (lookup (bytes_eq n) l) refl h.0 e (found_holds seen n ls m h.1)
 
-  pub agrees : (s : Sight) (seen : Seen) → Holds c s seen → Agree (scope_of s) c
+  pub agrees : (s : Sight) (seen : Seen) → Holds c s seen → Agree s c
   agrees s seen h = record { records = h.records; fields = h.fields; strings = h.strings; names = λ n m e. (found_holds seen n s.levels m h.levels e).0 }
 
   -- ---- labels
@@ -148,7 +149,7 @@ module _ (c : Scope) where
   label_is at seen (Some _) k h e = absurd cc
 
   pub label_seen : (s : Sight) (seen : Seen) (n : Ident) (k : ℕ) → Holds c s seen → label_in s n ≡ Ok k → sees seen.seen k ≡ true
-  label_seen s seen n k h e = label_is n.at seen (find (scope_of s) n.name) k (λ m q. found_holds seen n.name s.levels m h.levels q) e
+  label_seen s seen n k h e = label_is n.at seen (find s n.name) k (λ m q. found_holds seen n.name s.levels m h.levels q) e
 
   -- a label of the sequence is seen in it
   pub label_of : (first end k : ℕ) (seen : Seen) (n : List ℕ) → first ≤ k → k < end → EntryHolds c (sight_with seen (labels_from first end)) (n, meaning.Label k)

@@ -24,7 +24,8 @@ use Rattle.rt_tree.specs.Weights.{condition_weight, sequence_weight}
 use Rattle.rt_syntax_exprs.specs.Joins.{joins_two}
 use Rattle.rt_check_bodies.specs.declared.tally.Tally.{Tally}
 use Rattle.rt_check_bodies.specs.Parts.{next_local, three_locals, test_or}
-use Rattle.rt_check_bodies.specs.Sights.{Sight, within, test_in}
+use Rattle.rt_exprs.specs.Sights.{Sight, within}
+use Rattle.rt_check_bodies.specs.Sights.{test_in}
 use Rattle.rt_check_bodies.specs.declared.answer.Answer.{Answer}
 use Rattle.rt_check_bodies.specs.declared.plain.Bounds.{Bounds}
 use Rattle.rt_check_bodies.specs.Statements as spec
@@ -32,7 +33,7 @@ use Rattle.rt_check_bodies.specs.Statements.{Line, Declared, JudgedBody, JudgedB
 use Rattle.rt_check_bodies_laws.specs.Held.{Holds, EntryHolds}
 use Rattle.rt_check_bodies_laws.proofs.Growing.{Pre, pre_then, grew_same, grew_then, Growing, BranchesGrow, grow_found, grow_declarations, grow_sequence, grow_branches, grow_for, grow_to}
 use Rattle.rt_check_bodies_laws.proofs.Holding.{holds_within, declared_holds}
-use Rattle.rt_check_bodies_laws.proofs.Sequences.{one_longer, pre_length, pre_get, small_rest}
+use Rattle.rt_check_bodies_laws.proofs.Sequences.{one_longer, pre_length, pre_get}
 use Rattle.rt_check_bodies_laws.specs.Parts.{SequenceWithin, StatementWithin}
 use Rattle.rt_check_bodies_laws.proofs.Good.{Around, StatGood, int_stays, int_locals, step_stays, step_locals, test_stays, test_locals}
 use Rattle.rt_check_bodies_laws.proofs.Least.{sum_listed}
@@ -124,8 +125,7 @@ loop_there : (c : Scope) → Around c → (t : Tally) → Pre (three_locals t).1
 loop_there c a t f =
     let x : List Made = t.locals ++ made.Loop ∷ [] in
     let one : Pre x c.locals = pre_then (record { more = made.Loop ∷ made.Loop ∷ []; is = append_assoc x (made.Loop ∷ []) (made.Loop ∷ []) }) f in
-    let number : next_local t ≡ length t.locals = small_rest (length t.locals) (omega (arith, a.small, pre_length one, one_longer t.locals made.Loop)) in
-    ap (slice_get c.locals) number ∙ pre_get t.locals made.Loop c.locals one
+    pre_get t.locals made.Loop c.locals one
 
 pub bounds_locals : (s : Sight) (d : Control) (e : Expr) (t : Tally) → (bounds_in s d e t).1.locals ≡ t.locals
 bounds_locals s d e t =

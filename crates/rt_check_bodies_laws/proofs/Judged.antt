@@ -17,7 +17,8 @@ use Rattle.rt_exprs.proofs.Judged.{fit_holds}
 use Rattle.rt_exprs.proofs.Others.{target_holds, val_holds, call_holds, test_holds}
 use Rattle.rt_tree.specs.Statements.{Sight as Seen, tested}
 use Rattle.rt_syntax_exprs.specs.Joins.{joins_two}
-use Rattle.rt_check_bodies.specs.Sights.{Sight, scope_of, value_in, test_in}
+use Rattle.rt_exprs.specs.Sights.{Sight}
+use Rattle.rt_check_bodies.specs.Sights.{value_in, test_in}
 use Rattle.rt_check_bodies_laws.specs.Held.{Holds}
 use Rattle.rt_check_bodies_laws.proofs.Holding.{agrees}
 use Rattle.rt_check_bodies_laws.proofs.Conditions.{assigns_within, assigns_val_within, call_is_within, test_within}
@@ -28,16 +29,16 @@ use Rattle.rt_check_bodies_laws.specs.Refs.{AllFew}
 module _ (c : Scope) (few : AllFew c) (s : Sight) (seen : Seen) (k : Holds c s seen) where
   pub value_judged : (e : Expr) (m : Mode) (x : Value) → value_in s e m ≡ Ok x → ValueWithin (in_expr e) (valued c x).tree
   value_judged e m x h =
-      fits_within c (scope_of s) (agrees c s seen k) few (fit_holds (scope_of s) e (want m) x h) m refl
+      fits_within c s (agrees c s seen k) few (fit_holds s e (want m) x h) m refl
 
-  pub target_judged : (h : Chain) (x : Place × Mode) → target (scope_of s) h ≡ Ok (Some x.0, x.1) → SpotWithin (in_chain h) (placed c x.0).tree
-  target_judged h x e = assigns_within c (scope_of s) (agrees c s seen k) few (target_holds (scope_of s) h (Some x.0, x.1) e)
+  pub target_judged : (h : Chain) (x : Place × Mode) → target s h ≡ Ok (Some x.0, x.1) → SpotWithin (in_chain h) (placed c x.0).tree
+  target_judged h x e = assigns_within c s (agrees c s seen k) few (target_holds s h (Some x.0, x.1) e)
 
-  pub val_judged : (at : At) (h : Chain) (x : Place × Mode) → val_target (scope_of s) at h ≡ Ok (Some x.0, x.1) → SpotWithin (1 + in_chain h) (placed c x.0).tree
-  val_judged at h x e = assigns_val_within c (scope_of s) (agrees c s seen k) few (val_holds (scope_of s) at h (Some x.0, x.1) e)
+  pub val_judged : (at : At) (h : Chain) (x : Place × Mode) → val_target s at h ≡ Ok (Some x.0, x.1) → SpotWithin (1 + in_chain h) (placed c x.0).tree
+  val_judged at h x e = assigns_val_within c s (agrees c s seen k) few (val_holds s at h (Some x.0, x.1) e)
 
-  pub call_judged : (h : Chain) (x : Value) → alone (scope_of s) h ≡ Ok x → CallWithin (in_chain h) (valued c x).tree
-  call_judged h x e = call_is_within c (scope_of s) (agrees c s seen k) few (call_holds (scope_of s) h x e)
+  pub call_judged : (h : Chain) (x : Value) → alone s h ≡ Ok x → CallWithin (in_chain h) (valued c x).tree
+  call_judged h x e = call_is_within c s (agrees c s seen k) few (call_holds s h x e)
 
   pub test_judged : (d : Cond) (t : Test) → joins_two d ≡ true → test_in s d ≡ Ok t → ConditionWithin (in_cond d) (tested c t).tree
-  test_judged d t j e = test_within c (scope_of s) (agrees c s seen k) few (test_holds (scope_of s) d t e) j
+  test_judged d t j e = test_within c s (agrees c s seen k) few (test_holds s d t e) j

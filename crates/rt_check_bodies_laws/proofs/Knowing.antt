@@ -28,7 +28,7 @@ use Rattle.rt_exprs.specs.declared.operand.Standing.{Standing}
 use Rattle.rt_exprs.specs.declared.operand.Standing.TheVariants as standing
 use Rattle.rt_exprs.specs.declared.scope.Meaning.{Meaning}
 use Rattle.rt_exprs.specs.declared.scope.Meaning.TheVariants as meaning
-use Rattle.rt_exprs.specs.declared.scope.Scope.{Scope}
+use Rattle.rt_exprs.specs.Sights.{Sight}
 use Rattle.rt_exprs.specs.Modes.{Want, basic, want}
 use Rattle.rt_exprs.specs.Names.{find, text_by}
 use Rattle.rt_exprs.specs.Operands.{Is, place, computed, text, Judged, named, first_field, is_label, suits, suits_as, if_known, fits, by_itself}
@@ -38,9 +38,9 @@ use Rattle.rt_check_bodies_laws.specs.Held.{IsKnown}
 use Rattle.rt_check_bodies_laws.proofs.Real.{real_left, suits_real}
 
 -- what is seen in a scope can be known
-pub record Knows (s : Scope) : Type 0 where
+pub record Knows (s : Sight) : Type 0 where
   pub names : (name : List ℕ) (is : Meaning) → find s name ≡ Some is → IsKnown is
-  pub fields : (r k : ℕ) (name : List ℕ) (m : Mode) → first_field s.modes.now.records r name ≡ Some (k, m) → is_label (out-Mode m) ≡ false
+  pub fields : (r k : ℕ) (name : List ℕ) (m : Mode) → first_field s.records r name ≡ Some (k, m) → is_label (out-Mode m) ≡ false
 
 -- an answer that isn't what can't be known
 abbrev pub Certain : {A : Type 0} → Outcome A → Type 0
@@ -225,7 +225,7 @@ walk_sure : (ls : List (Outcome Judged → Outcome Judged)) (t : Outcome Judged)
 walk_sure [] t h k = k
 walk_sure (l ∷ ls) t h k = walk_sure ls (l t) h.1 (h.0 t k)
 
-module _ (s : Scope) (a : Knows s) where
+module _ (s : Sight) (a : Knows s) where
   abbrev ExprM : Expr → Type 0
   ExprM e = Sure (judged s e)
 
@@ -263,7 +263,7 @@ module _ (s : Scope) (a : Knows s) where
 
   opened_text : (e : Expr) (t : List ℕ) (at : At) → out-Expr e ≡ Expr-F.Text t at → ExprM e
   unfolding judged
-  opened_text e t at o = rw (fold_out-Expr, o) (text_sure at (position (λ x. x == at.item) s.strings.now.keys))
+  opened_text e t at o = rw (fold_out-Expr, o) (text_sure at (position (λ x. x == at.item) s.strings))
 
   opened_chain : (e : Expr) (c : Chain) → out-Expr e ≡ Expr-F.Chain c → judged s e ≡ judged_chain s c
   unfolding judged judged_chain
@@ -281,7 +281,7 @@ module _ (s : Scope) (a : Knows s) where
   unfolding judged
   opened_dyadic e x y op at o = rw (fold_out-Expr, o) refl
 
-  opened_dot : (l : Link) (n : Ident) (at : At) (t : Outcome Judged) → out-Link l ≡ Link-F.Dot n at → linked s l t ≡ dot_after s.modes.now.records n at t
+  opened_dot : (l : Link) (n : Ident) (at : At) (t : Outcome Judged) → out-Link l ≡ Link-F.Dot n at → linked s l t ≡ dot_after s.records n at t
   unfolding linked
   opened_dot l n at t o = rw (fold_out-Link, o) refl
 
@@ -304,8 +304,8 @@ module _ (s : Scope) (a : Knows s) where
   expr_level e (Expr-F.Monadic op x at) o = as_expr e (monadic at op (judged s x.0)) (opened_monadic e x.0 op at o) (monadic_sure at op (judged s x.0) x.1)
   expr_level e (Expr-F.Dyadic op x y at) o = as_expr e (dyadic at op (judged s x.0) (judged s y.0)) (opened_dyadic e x.0 y.0 op at o) (dyadic_sure at op (judged s x.0) (judged s y.0) x.1 y.1)
 
-  dot_after_sure : (n : Ident) (at : At) (t : Outcome Judged) → Sure t → Sure (dot_after s.modes.now.records n at t)
-  dot_after_sure n at (Ok j) k = dot_sure s.modes.now.records n at j k (λ r i m e. a.fields r i n.name m e) (record_in j.found.is)
+  dot_after_sure : (n : Ident) (at : At) (t : Outcome Judged) → Sure t → Sure (dot_after s.records n at t)
+  dot_after_sure n at (Ok j) k = dot_sure s.records n at j k (λ r i m e. a.fields r i n.name m e) (record_in j.found.is)
   dot_after_sure n at (Err g) k = k
 
   link_level : (l : Link) (y : Link-F ExprPair LinkPair ChainPair) → out-Link l ≡ map-Link ExprPair LinkPair ChainPair Expr Link Chain (λ e. e.0) (λ e. e.0) (λ e. e.0) y → LinkM l

@@ -12,11 +12,12 @@ use Rattle.rt_exprs.specs.declared.scope.Meaning.TheVariants as meaning
 use Rattle.rt_tree.specs.Statements.{Sight as Seen, labels_from, sight_with, marks, labelled_tree, sequence_tree}
 use Rattle.rt_check_bodies.specs.declared.tally.Tally.{Tally}
 use Rattle.rt_check_bodies.specs.Parts.{noted_if, label_more, labels_more, numbers_from}
-use Rattle.rt_check_bodies.specs.Sights.{Names, Sight, holds, within}
+use Rattle.rt_exprs.specs.Sights.{Names, Sight, holds, within}
 use Rattle.rt_check_bodies.specs.Statements.{Line, labels_of, labels_at, labelled, in_order, sequence}
 use Rattle.rt_check_bodies_laws.specs.Held.{Holds, LevelHolds}
 use Rattle.rt_check_bodies_laws.proofs.Growing.{Pre, pre_then, LineGrows, LinesGrow, grow_order}
-use Rattle.rt_check_bodies_laws.proofs.Holding.{holds_labelled, declared_holds, label_of}
+use Rattle.rt_check_bodies_laws.proofs.Holding.{holds_labelled}
+use Rattle.rt_check_bodies_laws.proofs.Sequences.{own, all_labels_done}
 use Rattle.rt_check_bodies_laws.specs.Parts.{StatementWithin, SequenceWithin}
 use Rattle.rt_check_bodies_laws.proofs.Good.{Around}
 use Rattle.rt_check_bodies_laws.proofs.Made.{stat_of, line_of, made_line}
@@ -55,25 +56,6 @@ labels_keep l (n ∷ ns) t = let u : Names × Tally = label_more l n t in labels
 pub all_labels_keep : (l : Names) (nss : List (List Ident)) (t : Tally) → (labels_of l nss t).1.locals ≡ t.locals
 all_labels_keep l [] t = refl
 all_labels_keep l (ns ∷ nss) t = let u : Names × Tally = labels_more l ns t in all_labels_keep u.0 nss u.1 ∙ labels_keep l ns t
-
-module _ (c : Scope) (seen : Seen) (end : ℕ) (wide : 65536 ≤ end) where
-  -- labels below an end are all seen
-  record Low (given : Names × Tally) : Type 0 where
-    level : LevelHolds c (sight_with seen (labels_from 0 end)) given.0
-    low : given.1.labels < end
-
-  labels_low : (l : Names) (ns : List Ident) (t : Tally) → Low (l, t) → Low (labels_more l ns t)
-  labels_low l [] t h = h
-  labels_low l (n ∷ ns) t h =
-      let u : Names × Tally = label_more l n t in
-      labels_low u.0 ns u.1 (record {
-        level = declared_holds c (sight_with seen (labels_from 0 end)) n.name (meaning.Label t.labels) l h.level (label_of c 0 end t.labels seen n.name (omega arith) h.low);
-        low = omega (arith, wide);
-      })
-
-  all_labels_low : (l : Names) (nss : List (List Ident)) (t : Tally) → Low (l, t) → Low (labels_of l nss t)
-  all_labels_low l [] t h = h
-  all_labels_low l (ns ∷ nss) t h = let u : Names × Tally = labels_more l ns t in all_labels_low u.0 nss u.1 (labels_low l ns t h)
 
 -- ---- trees
 
@@ -129,9 +111,9 @@ module _ (c : Scope) (a : Around c) where
   pub sequence_within : (xs : List Line) (ns : List ℕ) → AllGood xs ns → (s : Sight) (seen : Seen) (t : Tally) → Holds c s seen → Pre (sequence s xs t).1.locals c.locals
       → SequenceWithin (sum ns) (sequence_tree (map (line_of c) (sequence s xs t).0))
   sequence_within xs ns h s seen t g f =
-      let end : ℕ = t.labels + 65537 in
+      let end : ℕ = t.labels + own c (map labels_at xs) in
       let u : Names × Tally = labels_of [] (map labels_at xs) t in
-      let low = all_labels_low c seen end (omega arith) [] (map labels_at xs) t (record { level = tt; low = omega arith }) in
-      let inside = holds_labelled c s seen 0 end u.0 g low.level in
+      let all = all_labels_done c seen 0 end [] (map labels_at xs) t (omega arith) (omega arith) tt in
+      let inside = holds_labelled c s seen 0 end u.0 g all.level in
       let go = order_within xs ns h (within u.0 s) (sight_with seen (labels_from 0 end)) t.labels [] u.1 inside f in
       subst (λ (rows : List Labelled). SequenceWithin (sum ns) (sequence_tree (map (line_of c) rows))) (sym go.is) go.within

@@ -24,13 +24,14 @@ use Rattle.rt_tree.specs.Statements.{Sight as Seen, starts_at_zero, start_tree, 
 use Rattle.rt_tree.specs.Weights.{sequence_weight}
 use Rattle.rt_check_bodies.specs.declared.tally.Tally.{Tally}
 use Rattle.rt_check_bodies.specs.Parts.{noted_if, next_local, mode_or}
-use Rattle.rt_check_bodies.specs.Sights.{Sight, holds, innermost, value_in, alone_in, mode_in}
+use Rattle.rt_exprs.specs.Sights.{Sight, holds, innermost}
+use Rattle.rt_check_bodies.specs.Sights.{value_in, alone_in, mode_in}
 use Rattle.rt_check_bodies.specs.Statements.{Declared, start_in, start_alone, local_fit, local_more, locals_more, line_more, declarations}
 use Rattle.rt_check_bodies_laws.specs.Held.{Holds, EntryHolds}
 use Rattle.rt_check_bodies_laws.proofs.Accepted.{local_value}
 use Rattle.rt_check_bodies_laws.proofs.Growing.{Pre, pre_then, known_locals, grow_locals, grow_declarations}
 use Rattle.rt_check_bodies_laws.proofs.Holding.{holds_named}
-use Rattle.rt_check_bodies_laws.proofs.Sequences.{one_longer, pre_length, pre_get, small_rest}
+use Rattle.rt_check_bodies_laws.proofs.Sequences.{one_longer, pre_length, pre_get}
 use Rattle.rt_check_bodies_laws.specs.Parts.{StatementWithin}
 use Rattle.rt_check_bodies_laws.proofs.Good.{Around, found_locals, value_stays}
 use Rattle.rt_check_bodies_laws.proofs.Least.{sum_listed}
@@ -131,8 +132,7 @@ module _ (c : Scope) where
         let here : (local_fit m d n t).1.locals ≡ u.1.locals ++ made.Variable m ∷ [] = ap (λ (l : List Made). l ++ made.Variable m ∷ []) (noted_locals (holds (innermost d.sight.levels) n.name.name) (fault.DeclaredTwice n.name.at) u.1) in
         let known : Pre (u.1.locals ++ made.Variable m ∷ []) c.locals = subst (λ (l : List Made). Pre l c.locals) here f in
         let there : slice_get c.locals (length u.1.locals) ≡ Some (made.Variable m) = pre_get u.1.locals (made.Variable m) c.locals known in
-        let number : next_local u.1 ≡ length u.1.locals = small_rest (length u.1.locals) (omega (arith, a.small, pre_length known, one_longer u.1.locals (made.Variable m))) in
-        let entry : EntryHolds c seen (n.name.name, meaning.Local (next_local u.1) m) = ((ap (slice_get c.locals) number ∙ there, local_value c a.small a.standing (length u.1.locals) m there), tt) in
+        let entry : EntryHolds c seen (n.name.name, meaning.Local (next_local u.1) m) = ((there, local_value c a.small a.standing (length u.1.locals) m there), tt) in
         record {
           starts = record { local = next_local u.1; start = u.0 } ∷ [];
           is = refl;

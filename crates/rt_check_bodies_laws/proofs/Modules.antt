@@ -18,7 +18,7 @@ use Rattle.rt_tree_nodes.specs.Scopes.{Scope, same, passes, faces, sort_of, scop
 use Rattle.rt_tree_nodes.specs.Typing.{Signature, signature_by}
 use Rattle.rt_tree.specs.Modules.{record_stands, item_stands, stands_alone, data_starts, body_fits, proc_fits, sort_fits, brick_fits, is_here, is_short, parameters_first, local_stands, every_node_fits}
 use Rattle.rt_tree.specs.Within.{ProcWithin, SortWithin, parameters_by}
-use Rattle.rt_check_bodies.specs.Sights.{Sight}
+use Rattle.rt_exprs.specs.Sights.{Sight}
 use Rattle.rt_check_bodies.specs.Procedures.{procedure}
 use Rattle.rt_bricks_laws.specs.Laws.{ItemsCounted, BodyIsBroad}
 use Rattle.rt_bricks_laws.proofs.BroadBricks.{bodies_broad}

@@ -16,7 +16,8 @@ use Rattle.rt_check_declared.specs.Verdicts as verdict
 use Rattle.rt_check_declared.specs.Verdicts.{Verdict, fit, unfit, outcome}
 use Rattle.rt_check_declared.specs.Written.{judged, length_fits, counted}
 use Rattle.rt_check_bodies.specs.declared.tally.Tally.{Tally}
-use Rattle.rt_check_bodies.specs.Sights.{Names, Sight, declared, with_name, scope_of, variable_by, mode_in}
+use Rattle.rt_exprs.specs.Sights.{Names, Sight, declared, with_name}
+use Rattle.rt_check_bodies.specs.Sights.{variable_by, mode_in}
 use Rattle.rt_check_bodies.specs.Statements.{labels_of}
 use Rattle.rt_bricks_laws.specs.Shallow.{shallow}
 use Rattle.rt_check_bodies_laws.specs.Standing.{AreRecords}
@@ -42,14 +43,14 @@ by_verdict at (fit k) m e = by_length at k m (length_fits (out-Mode k)) refl e
 by_verdict at (unfit f fs) m e = absurd cc
 
 module _ (n : ℕ) where
-  are_records : (s : Sight) → NamesRecords n s → AreRecords n (find (scope_of s))
+  are_records : (s : Sight) → NamesRecords n s → AreRecords n (find s)
   are_records s h w r e = found_each (IsRecord n) w s.levels (meaning.Mode r) h e
 
   -- the mode of a parameter or a local may stand
   pub mode_stands : (s : Sight) (at : At) (w : WrittenMode) (m : Mode) → NamesRecords n s → shallow w 100 8 ≡ true → mode_in s at w ≡ Ok m → local_stands n (made.Variable m) ≡ true
   mode_stands s at w m h l e =
-      let j = by_verdict at (judged (find (scope_of s)) w site.Variable) m e in
-      (written_stands (find (scope_of s)) n (are_records s h) w site.Variable m j.is).may 100 8 l j.long
+      let j = by_verdict at (judged (find s) w site.Variable) m e in
+      (written_stands (find s) n (are_records s h) w site.Variable m j.is).may 100 8 l j.long
 
   -- ---- more names
 

@@ -22,7 +22,8 @@ use Rattle.rt_tree.specs.Weights.{unmarked}
 use Rattle.rt_tree.specs.Within.{tree_of, frame_words, frame_unmarked}
 use Rattle.rt_check_bodies.specs.declared.tally.Tally.{Tally}
 use Rattle.rt_check_bodies.specs.Parts.{noted_if, mode_or}
-use Rattle.rt_check_bodies.specs.Sights.{Names, Sight, holds, within, mode_in}
+use Rattle.rt_exprs.specs.Sights.{Names, Sight, holds, within}
+use Rattle.rt_check_bodies.specs.Sights.{mode_in}
 use Rattle.rt_check_bodies.specs.declared.answer.Answer.{Answer}
 use Rattle.rt_check_bodies.specs.Procedures.{named, group, parameters, answer_in, is_wanted, closed_at, nothing_yet, procedure, faults}
 use Rattle.rt_bricks.specs.Counted.{items_of}

@@ -21,7 +21,7 @@ use Rattle.rt_tree.specs.Statements as tree
 use Rattle.rt_tree.specs.Statements.{Sight as Seen, Part as Fitting, Marked, next_by, counted, labels_end, labels_from, sight_with, then_part, stat_part, marked, marked_part}
 use Rattle.rt_check_bodies.specs.declared.tally.Tally.{Tally}
 use Rattle.rt_check_bodies.specs.Parts.{found_or, mode_or, noted_known, noted_if, noted_twice, with_label, behind, labels_more, numbers_from}
-use Rattle.rt_check_bodies.specs.Sights.{Names, Sight, holds, declared, within}
+use Rattle.rt_exprs.specs.Sights.{Names, Sight, holds, declared, within}
 use Rattle.rt_check_bodies.specs.declared.answer.Answer.{Answer}
 use Rattle.rt_check_bodies.specs.Statements.{Line, labels_of, labels_at, labelled, in_order, sequence}
 use Rattle.rt_check_bodies_laws.proofs.Growing.{Pre, pre_then, pre_none, Grew, LineGrows, LinesGrow, grow_order}
@@ -49,9 +49,6 @@ get_behind (y ∷ ys) x zs = get_behind ys x zs
 
 pub pre_get : {A : Type 0} (xs : List A) (x : A) (ys : List A) → Pre (xs ++ x ∷ []) ys → slice_get ys (length xs) ≡ Some x
 pre_get xs x ys p = ap (λ z. slice_get z (length xs)) p.is ∙ get_behind xs x p.more
-
-pub small_rest : (n : ℕ) → n < 65536 → n % 65536 ≡ n
-small_rest n h = grind (arith, nat_tests)
 
 -- ---- what is found without a fault
 
@@ -106,7 +103,7 @@ same_number k = grind (arith, nat_tests)
 numbered : (done : List ℕ) (k : ℕ) (ns : List Ident) → k + length ns < 65536 → Numbered done k ns
 numbered done k [] h = record { numbers = []; is = sym (append-nil done); counts = ap (λ (z : ℕ). Some z) (omega arith); next = omega arith }
 numbered done k (n ∷ ns) h =
-    let next_is : behind k ≡ suc k = small_rest (k + 1) (omega (arith, h)) ∙ omega arith in
+    let next_is : behind k ≡ suc k = omega arith in
     let go = numbered (done ++ k ∷ []) (suc k) ns (omega (arith, h)) in
     let moved : numbers_from (done ++ k ∷ []) (behind k) ns ≡ numbers_from (done ++ k ∷ []) (suc k) ns = ap (λ (z : ℕ). numbers_from (done ++ k ∷ []) z ns) next_is in
     record {
@@ -144,27 +141,27 @@ module _ (c : Scope) where
   noted_locals true g t = refl
   noted_locals false g t = refl
 
-  labels_done : (seen : Seen) (first end : ℕ) (l : Names) (ns : List Ident) (t : Tally) → first ≤ t.labels → t.labels + length ns ≤ end → end < 65536 → LevelHolds c (sight_with seen (labels_from first end)) l
+  labels_done : (seen : Seen) (first end : ℕ) (l : Names) (ns : List Ident) (t : Tally) → first ≤ t.labels → t.labels + length ns ≤ end → LevelHolds c (sight_with seen (labels_from first end)) l
       → LabelsDone seen first end t (length ns) (labels_more l ns t).0 (labels_more l ns t).1
-  labels_done seen first end l [] t a b h v = record { labels = omega arith; locals = refl; level = v }
-  labels_done seen first end l (n ∷ ns) t a b h v =
+  labels_done seen first end l [] t a b v = record { labels = omega arith; locals = refl; level = v }
+  labels_done seen first end l (n ∷ ns) t a b v =
       let u : Tally = with_label (noted_twice l n t) in
-      let next_is : u.labels ≡ suc t.labels = ap behind (noted_labels (holds l n.name) _ t) ∙ small_rest (t.labels + 1) (omega (arith, b, h)) ∙ omega arith in
+      let next_is : u.labels ≡ suc t.labels = ap behind (noted_labels (holds l n.name) _ t) ∙ omega arith in
       let entry = label_of c first end t.labels seen n.name a (omega (arith, b)) in
-      let go = labels_done seen first end (declared n.name (meaning.Label t.labels) l) ns u (omega (arith, a, next_is)) (omega (arith, b, next_is)) h (declared_holds c (sight_with seen (labels_from first end)) n.name (meaning.Label t.labels) l v entry) in
+      let go = labels_done seen first end (declared n.name (meaning.Label t.labels) l) ns u (omega (arith, a, next_is)) (omega (arith, b, next_is)) (declared_holds c (sight_with seen (labels_from first end)) n.name (meaning.Label t.labels) l v entry) in
       record { labels = go.labels ∙ omega (arith, next_is); locals = go.locals ∙ noted_locals (holds l n.name) _ t; level = go.level }
 
   abbrev pub own : List (List Ident) → ℕ
   own [] = 0
   own (ns ∷ nss) = length ns + own nss
 
-  all_labels_done : (seen : Seen) (first end : ℕ) (l : Names) (nss : List (List Ident)) (t : Tally) → first ≤ t.labels → t.labels + own nss ≤ end → end < 65536 → LevelHolds c (sight_with seen (labels_from first end)) l
+  pub all_labels_done : (seen : Seen) (first end : ℕ) (l : Names) (nss : List (List Ident)) (t : Tally) → first ≤ t.labels → t.labels + own nss ≤ end → LevelHolds c (sight_with seen (labels_from first end)) l
       → LabelsDone seen first end t (own nss) (labels_of l nss t).0 (labels_of l nss t).1
-  all_labels_done seen first end l [] t a b h v = record { labels = omega arith; locals = refl; level = v }
-  all_labels_done seen first end l (ns ∷ nss) t a b h v =
-      let d = labels_done seen first end l ns t a (omega (arith, b)) h v in
+  all_labels_done seen first end l [] t a b v = record { labels = omega arith; locals = refl; level = v }
+  all_labels_done seen first end l (ns ∷ nss) t a b v =
+      let d = labels_done seen first end l ns t a (omega (arith, b)) v in
       let u : Names × Tally = labels_more l ns t in
-      let go = all_labels_done seen first end u.0 nss u.1 (omega (arith, a, d.labels)) (omega (arith, b, d.labels)) h d.level in
+      let go = all_labels_done seen first end u.0 nss u.1 (omega (arith, a, d.labels)) (omega (arith, b, d.labels)) d.level in
       record { labels = go.labels ∙ omega (arith, d.labels); locals = go.locals ∙ d.locals; level = go.level }
 
   -- ---- statements of a sequence
@@ -241,7 +238,7 @@ module _ (c : Scope) where
         let nss : List (List Ident) = map labels_at (lines ks) in
         let end : ℕ = t.labels + own nss in
         let u : Names × Tally = labels_of [] nss t in
-        let d = all_labels_done seen t.labels end [] nss t (omega arith) (omega arith) (omega (arith, b)) tt in
+        let d = all_labels_done seen t.labels end [] nss t (omega arith) (omega arith) tt in
         let inside = shown_labelled c s seen t.labels end u.0 h d.level (all_labels_each IsKnown (λ k. tt) [] nss t tt) in
         let go = order_fits ks (within u.0 s) (sight_with seen (labels_from t.labels end)) t.labels [] u.1 inside q f (omega (arith, b)) (omega (arith, b, d.labels)) in
         let rows_are : (sequence s (lines ks) t).0 ≡ go.rows = go.is in

@@ -18,7 +18,8 @@ use Rattle.rt_exprs.specs.Outcomes.{Outcome}
 use Rattle.rt_tree.specs.Modules.{local_stands}
 use Rattle.rt_check_bodies.specs.declared.tally.Tally.{Tally}
 use Rattle.rt_check_bodies.specs.Parts.{Part, noted_if, next_local, three_locals, mode_or}
-use Rattle.rt_check_bodies.specs.Sights.{Names, Sight, holds, innermost, within, mode_in}
+use Rattle.rt_exprs.specs.Sights.{Names, Sight, holds, innermost, within}
+use Rattle.rt_check_bodies.specs.Sights.{mode_in}
 use Rattle.rt_check_bodies.specs.declared.plain.Bounds.{Bounds}
 use Rattle.rt_check_bodies.specs.Statements.{Line, Declared, JudgedBranch, labels_of, labels_at, labelled, in_order, sequence, start_in, start_alone, local_more, locals_more, line_more, declarations, branches, bounds_in, variable_of, for_loop, to_loop, int_in}
 use Rattle.rt_check_bodies.specs.Parts.{numbers_from}

@@ -29,7 +29,8 @@ use Rattle.rt_exprs.specs.Outcomes.{Outcome}
 use Rattle.rt_tree.specs.Modules.{local_stands}
 use Rattle.rt_check_bodies.specs.declared.tally.Tally.{Tally}
 use Rattle.rt_check_bodies.specs.Parts.{noted_if, next_local, mode_or, found_or, test_or}
-use Rattle.rt_check_bodies.specs.Sights.{Names, Sight, holds, within, mode_in, call_in, assignment_in, val_assignment_in, label_in, test_in}
+use Rattle.rt_exprs.specs.Sights.{Names, Sight, holds, within}
+use Rattle.rt_check_bodies.specs.Sights.{mode_in, call_in, assignment_in, val_assignment_in, label_in, test_in}
 use Rattle.rt_check_bodies.specs.declared.answer.Answer.{Answer}
 use Rattle.rt_check_bodies.specs.Procedures.{named, group, parameters, answer_in, closed_at, nothing_yet}
 use Rattle.rt_check_bodies.specs.Statements as spec

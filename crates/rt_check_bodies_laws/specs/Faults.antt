@@ -3,7 +3,7 @@ use Rattle.std.specs.Prelude.{◌≡◌, false}
 use Rattle.rt_bricks.specs.declared.tree.ProcedureBrick.{ProcedureBrick}
 use Rattle.rt_exprs.specs.declared.fault.CheckFault.{CheckFault}
 use Rattle.rt_exprs.specs.Outcomes.{is_unknown}
-use Rattle.rt_check_bodies.specs.Sights.{Sight}
+use Rattle.rt_exprs.specs.Sights.{Sight}
 use Rattle.rt_check_bodies.specs.Procedures.{Stands}
 
 -- What stands in a procedure is never what can't be known, whatever is seen where it stands.

@@ -7,7 +7,7 @@ use Rattle.rt_tree_nodes.specs.declared.brick.Local.TheVariants as local
 use Rattle.rt_tree_nodes.specs.Scopes.{Scope, with_locals}
 use Rattle.rt_tree.specs.Modules.{local_stands, proc_fits}
 use Rattle.rt_tree.specs.Statements.{Sight as Seen}
-use Rattle.rt_check_bodies.specs.Sights.{Sight}
+use Rattle.rt_exprs.specs.Sights.{Sight}
 use Rattle.rt_check_bodies.specs.Procedures.{parameters, answer_in, nothing_yet, procedure, faults}
 use Rattle.rt_check_bodies_laws.specs.Held.{Holds, AllKnown, ResultIs}
 use Rattle.rt_bricks_laws.specs.Bodies.{labels_in_body, body_is_broad}

@@ -8,7 +8,7 @@ use Rattle.rt_exprs.specs.declared.scope.Meaning.{Meaning}
 use Rattle.rt_exprs.specs.declared.scope.Meaning.TheVariants as meaning
 use Rattle.rt_tree.specs.Statements.{Sight as Seen, sees}
 use Rattle.rt_exprs_laws.specs.Agreeing.{IsThere, HasItems, IsValue}
-use Rattle.rt_check_bodies.specs.Sights.{Names, Sight, set_of}
+use Rattle.rt_exprs.specs.Sights.{Names, Sight}
 use Rattle.rt_check_bodies.specs.declared.answer.Answer.{Answer}
 use Rattle.rt_check_bodies.specs.declared.answer.Answer.TheVariants as answer
 
@@ -32,7 +32,7 @@ module _ (c : Scope) where
   pub record Holds (s : Sight) (seen : Seen) : Type 0 where
     pub records : s.records ≡ c.records
     pub fields : (r : ℕ) (d : RecordDef) → slice_get c.records r ≡ Some d → HasItems d
-    pub strings : length (set_of s.strings).keys ≡ c.strings
+    pub strings : length s.strings ≡ c.strings
     pub levels : LevelsHold seen s.levels
 
 -- ---- what can be known

@@ -5,7 +5,7 @@ use Rattle.rt_bricks.specs.declared.tree.ProcedureBrick.{ProcedureBrick}
 use Rattle.rt_exprs.specs.declared.scope.Meaning.{Meaning}
 use Rattle.rt_exprs.specs.declared.scope.Meaning.TheVariants as meaning
 use Rattle.rt_tree.specs.Modules.{local_stands}
-use Rattle.rt_check_bodies.specs.Sights.{Names, Sight}
+use Rattle.rt_exprs.specs.Sights.{Names, Sight}
 use Rattle.rt_check_bodies.specs.Procedures.{procedure}
 use Rattle.rt_bricks_laws.specs.Modes.{IsShallowProcedure}
 

@@ -11,7 +11,7 @@ use Rattle.rt_tree_nodes.specs.declared.value.Place.{Place}
 use Rattle.rt_tree_nodes.specs.declared.value.Value.{Value}
 use Rattle.rt_tree_nodes.specs.Scopes.{Scope}
 use Rattle.rt_tree_nodes.specs.Typing.{placed, valued}
-use Rattle.rt_exprs.specs.declared.scope.Scope.{Scope as Names}
+use Rattle.rt_exprs.specs.Sights.{Sight}
 use Rattle.rt_exprs.specs.Fitting.{Fits, Assigns, AssignsVal, CallIs, TestIs}
 use Rattle.rt_tree.specs.Statements.{tested}
 use Rattle.rt_exprs_laws.specs.Agreeing.{Agree}
@@ -21,19 +21,19 @@ use Rattle.rt_check_bodies_laws.specs.Refs.{AllFew}
 
 -- the value that fits an expression where a mode is wanted
 abbrev pub ValuesStayWithin : Type 0
-ValuesStayWithin = (s : Names) (c : Scope) (e : Expr) (m : Mode) (x : Value) → Agree s c → AllFew c → Fits s e m x → ValueWithin (in_expr e) (valued c x).tree
+ValuesStayWithin = (s : Sight) (c : Scope) (e : Expr) (m : Mode) (x : Value) → Agree s c → AllFew c → Fits s e m x → ValueWithin (in_expr e) (valued c x).tree
 
 -- the place that a chain assigns, and the one that VAL and a chain assign
 abbrev pub TargetsStayWithin : Type 0
-TargetsStayWithin = (s : Names) (c : Scope) (h : Chain) (p : Place) (m : Mode) → Agree s c → AllFew c → Assigns s h (p, m) → SpotWithin (in_chain h) (placed c p).tree
+TargetsStayWithin = (s : Sight) (c : Scope) (h : Chain) (p : Place) (m : Mode) → Agree s c → AllFew c → Assigns s h (p, m) → SpotWithin (in_chain h) (placed c p).tree
 
 abbrev pub ValTargetsStayWithin : Type 0
-ValTargetsStayWithin = (s : Names) (c : Scope) (at : At) (h : Chain) (p : Place) (m : Mode) → Agree s c → AllFew c → AssignsVal s at h (p, m) → SpotWithin (1 + in_chain h) (placed c p).tree
+ValTargetsStayWithin = (s : Sight) (c : Scope) (at : At) (h : Chain) (p : Place) (m : Mode) → Agree s c → AllFew c → AssignsVal s at h (p, m) → SpotWithin (1 + in_chain h) (placed c p).tree
 
 -- a call that stands alone
 abbrev pub CallsStayWithin : Type 0
-CallsStayWithin = (s : Names) (c : Scope) (h : Chain) (x : Value) → Agree s c → AllFew c → CallIs s h x → CallWithin (in_chain h) (valued c x).tree
+CallsStayWithin = (s : Sight) (c : Scope) (h : Chain) (x : Value) → Agree s c → AllFew c → CallIs s h x → CallWithin (in_chain h) (valued c x).tree
 
 -- the test that a condition is, where AND and OR join two or more
 abbrev pub TestsStayWithin : Type 0
-TestsStayWithin = (s : Names) (c : Scope) (d : Cond) (t : Test) → Agree s c → AllFew c → joins_two d ≡ true → TestIs s d t → ConditionWithin (in_cond d) (tested c t).tree
+TestsStayWithin = (s : Sight) (c : Scope) (d : Cond) (t : Test) → Agree s c → AllFew c → joins_two d ≡ true → TestIs s d t → ConditionWithin (in_cond d) (tested c t).tree

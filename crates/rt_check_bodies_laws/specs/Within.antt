@@ -16,7 +16,7 @@ use Rattle.rt_tree_nodes.specs.Scopes.{scope_of, with_locals}
 use Rattle.rt_tree.specs.Modules.{local_stands, every_node_fits, with_most}
 use Rattle.rt_tree.specs.Statements.{Sight as Seen}
 use Rattle.rt_tree.specs.Within.{ProcWithin, Within}
-use Rattle.rt_check_bodies.specs.Sights.{Sight}
+use Rattle.rt_exprs.specs.Sights.{Sight}
 use Rattle.rt_check_bodies.specs.Procedures.{procedure, faults}
 use Rattle.rt_bricks.specs.Counted.{items_of}
 use Rattle.rt_check_bodies_laws.specs.Held.{Holds}

@@ -9,9 +9,8 @@ ghost use Rattle.rt_check_declared.specs.Verdicts.{Verdict, fit, Stands, Answers
 ghost use Rattle.rt_check_declared.specs.Written as spec;
 
 use crate::join::{after, both};
-use crate::lookup::find_name;
 use crate::site::Site;
-use rt_exprs::{CheckFault, Level, Meaning};
+use rt_exprs::{CheckFault, Level, Meaning, find_name};
 use rt_grammar::At;
 use rt_modes::Mode;
 use rt_syntax_exprs::{BasicMode, WrittenMode};

@@ -2,7 +2,7 @@
 use Rattle.std.proofs.Common.{◌≡◌, ℕ, zero, suc, ◌+◌, List, [], ◌∷◌, Option, drop, slice_get, refl, sym, ◌∙◌, add-one}
 use Rattle.rt_check_declared.specs.Names.{Known}
 use Rattle.rt_check_declared.specs.declared.bricks.Heading.{Heading}
-use Rattle.rt_check_bodies.specs.Sights.{Names}
+use Rattle.rt_exprs.specs.Sights.{Names}
 use Rattle.rt_check_module.specs.declared.supplied.Own.{Own}
 use Rattle.rt_check_module.specs.Levels.{if_any, with_mode, with_modes, with_one, with_all}
 

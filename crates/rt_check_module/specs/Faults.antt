@@ -5,7 +5,7 @@ use Rattle.rt_bricks.specs.declared.tree.Declaration.TheVariants as declares
 use Rattle.rt_exprs.specs.declared.fault.CheckFault.{CheckFault}
 use Rattle.rt_sizes.specs.Sizes.{Table}
 use Rattle.rt_check_declared.specs.Verdicts.{IsIn}
-use Rattle.rt_check_bodies.specs.Sights.{Sight, scope_of}
+use Rattle.rt_exprs.specs.Sights.{Sight}
 use Rattle.rt_check_bodies.specs.Procedures.{faults}
 use Rattle.rt_check_declared.specs.Names.{name_faults}
 use Rattle.rt_check_declared.specs.Records.{Stands as StandsInModes}
@@ -18,7 +18,7 @@ use Rattle.rt_check_module.specs.Tree.{items_in, Somewhere, modes_seen, records,
 module _ (s : Sight) where
   -- a fault stands in what a declaration's brick holds, or in it as a whole
   abbrev pub Inside : Table → CheckFault → Option Heading → Declaration → Type 0
-  Inside t g h (declares.Data d) = BrickFault t (scope_of s) d.lines (items_in h) g
+  Inside t g h (declares.Data d) = BrickFault t s d.lines (items_in h) g
   Inside t g h (declares.ImportedData d) = LargeFault t (items_in h) g
   Inside t g h (declares.Procedure p) = IsIn g (faults s p)
   Inside t g h _ = ⊥

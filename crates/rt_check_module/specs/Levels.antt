@@ -18,7 +18,7 @@ use Rattle.rt_check_declared.specs.declared.parts.Given.{Given}
 use Rattle.rt_check_declared.specs.declared.parts.Given.TheVariants as given
 use Rattle.rt_check_declared.specs.declared.parts.Part.{Part}
 use Rattle.rt_check_declared.specs.Totals.{all_fields}
-use Rattle.rt_check_bodies.specs.Sights.{Names, declared}
+use Rattle.rt_exprs.specs.Sights.{Names, declared}
 use Rattle.rt_check_module.specs.declared.supplied.Own.{Own}
 use Rattle.rt_check_module.specs.declared.supplied.Own.TheVariants as own
 

@@ -13,8 +13,7 @@ use Rattle.rt_exprs.specs.Names.{find_in}
 use Rattle.rt_sizes.specs.Sizes.{Table}
 use Rattle.rt_check_declared.specs.Written.{Names}
 use Rattle.rt_syntax.specs.Strings.{Texts, in_body}
-use Rattle.rt_check_bodies.specs.Sights.{Sight, level_of, scope_of}
-use Rattle.rt_check_bodies.specs.Sights.{Names as Level}
+use Rattle.rt_exprs.specs.Sights.{Sight, Names as Level}
 use Rattle.rt_check_bodies.specs.Procedures.{procedure}
 use Rattle.rt_check_declared.specs.Names.{bricks_in, scope}
 use Rattle.rt_check_declared.specs.Records.{table}
@@ -32,7 +31,7 @@ use Rattle.rt_check_module.specs.declared.filling.Filling.{Filling}
 
 -- what names stand for where these are declared
 abbrev pub seen : Level → Names
-seen l n = find_in (level_of l ∷ []) n
+seen l = find_in (l ∷ [])
 
 abbrev pub items_of : Sort → List Part
 items_of (sort.Items ps) = ps
@@ -110,7 +109,7 @@ filled (h ∷ hs) (f ∷ fs) = brick_by h f ∷ filled hs fs
 module _ (s : Sight) where
   -- what the bricks of a declaration hold, of which this is the first
   abbrev pub fillings_in : Option Heading → Declaration → List Filling
-  fillings_in h (declares.Data d) = record { body = None; starts = brick_starts (scope_of s) d.lines (items_in h) } ∷ []
+  fillings_in h (declares.Data d) = record { body = None; starts = brick_starts s d.lines (items_in h) } ∷ []
   fillings_in h (declares.Procedure p) = record { body = Some (procedure s p); starts = [] } ∷ []
   fillings_in h d = replicate (bricks_in d) nothing
 

@@ -4,12 +4,9 @@ ghost use Rattle.std.specs.Prelude.{◌≡◌, [], IfOk, OnOk, option_map, slice
 ghost use Rattle.rt_check_declared.specs.Naming.{plain, plain_entry};
 ghost use Rattle.rt_check_module.specs.Levels as spec;
 ghost use Rattle.rt_modes.specs.declared.mode.Mode.{out-Mode};
-ghost use Rattle.rt_check_bodies.specs.Seen.{names_of};
 ghost use Rattle.std.specs.Option.{option_copied};
 
 use crate::supplied::{Own, is_service, own_bricks};
-use indexmap::IndexMap;
-use rt_check_bodies::declare;
 use rt_check_declared::{Declared, Given, Heading, ModuleNames, Part, Sort};
 use rt_exprs::{Level, Meaning};
 use rt_modes::Mode;
@@ -19,9 +16,9 @@ use std::alloc::Global;
 
 /// The names of a module's MODEs, and what they stand for, whether fit or not.
 pub fn mode_level<'m>(alloc: Global, names: &ModuleNames<'m>) -> Result<Level<'m>, Memory>
-    ensures { IfOk result (λ level. names_of level ≡ spec.mode_names (plain names.now.table.entries)) }
+    ensures { IfOk result (λ level. level ≡ spec.mode_names (plain names.now.table.entries)) }
 {
-    let mut level = IndexMap::new(alloc);
+    let mut level = Level::new(alloc);
     for number in 0..names.table.len() {
         add_mode_at(names, number, &mut level)?;
     }
@@ -44,7 +41,7 @@ fn add_mode_at<'m>(
     number: usize,
     level: &mut Level<'m>,
 ) -> Result<(), Memory>
-    ensures { OnOk result (names_of level.new ≡ spec.if_any spec.with_mode (names_of level.old) (slice_get (plain names.now.table.entries) number)) }
+    ensures { OnOk result (level.new ≡ spec.if_any spec.with_mode level.old (slice_get (plain names.now.table.entries) number)) }
 {
     match name_at(names, number) {
         Some((name, declared)) => add_mode(name, declared, level),
@@ -54,10 +51,10 @@ fn add_mode_at<'m>(
 
 /// Adds a name, where it is that of a MODE.
 fn add_mode<'m>(name: &'m [u8], declared: Declared, level: &mut Level<'m>) -> Result<(), Memory>
-    ensures { OnOk result (names_of level.new ≡ spec.with_mode (names_of level.old) (name.now, declared)) }
+    ensures { OnOk result (level.new ≡ spec.with_mode level.old (name.now, declared)) }
 {
     if let Declared::Record(record) = declared {
-        declare(level, name, Meaning::Mode(record))?;
+        level.declare(name, Meaning::Mode(record))?;
     }
     Ok(())
 }
@@ -68,14 +65,14 @@ pub fn module_level<'m>(
     names: &ModuleNames<'m>,
     bricks: &[Heading],
 ) -> Result<Level<'m>, Memory>
-    ensures { IfOk result (λ level. names_of level ≡ spec.module_names bricks.now (plain names.now.table.entries)) }
+    ensures { IfOk result (λ level. level ≡ spec.module_names bricks.now (plain names.now.table.entries)) }
 {
     let owns = own_bricks(alloc, bricks)?;
     let module = Seen {
         owns: owns.as_slice(),
         bricks,
     };
-    let mut level = IndexMap::new(alloc);
+    let mut level = Level::new(alloc);
     for number in 0..names.table.len() {
         module.add_name_at(alloc, names, number, &mut level)?;
     }
@@ -98,7 +95,7 @@ impl<'s> Seen<'s> {
         number: usize,
         level: &mut Level<'m>,
     ) -> Result<(), Memory>
-        ensures { OnOk result (names_of level.new ≡ spec.if_any (spec.with_one self.now.owns.now self.now.bricks.now) (names_of level.old) (slice_get (plain names.now.table.entries) number)) }
+        ensures { OnOk result (level.new ≡ spec.if_any (spec.with_one self.now.owns.now self.now.bricks.now) level.old (slice_get (plain names.now.table.entries) number)) }
     {
         match name_at(names, number) {
             Some((name, declared)) => self.add_name(alloc, name, declared, level),
@@ -114,10 +111,10 @@ impl<'s> Seen<'s> {
         declared: Declared,
         level: &mut Level<'m>,
     ) -> Result<(), Memory>
-        ensures { OnOk result (names_of level.new ≡ spec.with_one self.now.owns.now self.now.bricks.now (names_of level.old) (name.now, declared)) }
+        ensures { OnOk result (level.new ≡ spec.with_one self.now.owns.now self.now.bricks.now level.old (name.now, declared)) }
     {
         let meaning = self.meaning(alloc, declared)?;
-        declare(level, name, meaning)?;
+        level.declare(name, meaning)?;
         Ok(())
     }
 

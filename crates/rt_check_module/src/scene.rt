@@ -1,7 +1,6 @@
 //! What the declarations of a module say, outside of what bricks hold.
 
 ghost use Rattle.std.specs.Prelude.{◌≡◌, IfOk};
-ghost use Rattle.rt_check_bodies.specs.Seen.{names_of};
 ghost use Rattle.rt_check_module.specs.Levels.{module_names};
 ghost use Rattle.rt_check_declared.specs.Records.{Counts};
 ghost use Rattle.rt_sizes.specs.Capped.{AreSizes};
@@ -38,7 +37,7 @@ pub fn read_scene<'m>(alloc: Global, declarations: &'m [Declaration]) -> Result<
     ensures records { IfOk result (λ s. s.modes.records ≡ (spec.records declarations.now).records) }
     ensures sizes { IfOk result (λ s. AreSizes (spec.records declarations.now) s.sizes) }
     ensures bricks { IfOk result (λ s. s.bricks ≡ spec.headings declarations.now) }
-    ensures level { IfOk result (λ s. names_of s.level ≡ module_names s.bricks (known.scope declarations.now)) }
+    ensures level { IfOk result (λ s. s.level ≡ module_names s.bricks (known.scope declarations.now)) }
     // The fault that counts; there is none only where none stands.
     ensures fault { IfOk result (λ s. Counts (StandsOutside declarations.now) s.fault) }
 {

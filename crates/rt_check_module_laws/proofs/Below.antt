@@ -4,7 +4,7 @@ use Rattle.std.specs.Prelude.{slice_get}
 use Rattle.std.specs.List.{AllByRecursion}
 use Rattle.rt_exprs.specs.declared.scope.Meaning.{Meaning}
 use Rattle.rt_exprs.specs.declared.scope.Meaning.TheVariants as meaning
-use Rattle.rt_check_bodies.specs.Sights.{Names, holds, declared}
+use Rattle.rt_exprs.specs.Sights.{Names, holds, declared}
 use Rattle.rt_check_declared.specs.declared.names.Declared.{Declared}
 use Rattle.rt_check_declared.specs.declared.names.Declared.TheVariants as what
 use Rattle.rt_check_declared.specs.Names.{Known}

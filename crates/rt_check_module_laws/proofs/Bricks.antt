@@ -31,7 +31,7 @@ use Rattle.rt_check_declared.specs.declared.written.Resolved.{Resolved}
 use Rattle.rt_check_declared.specs.declared.written.Resolved.TheVariants as resolved
 use Rattle.rt_check_declared.specs.Verdicts.{Verdict, fit, unfit}
 use Rattle.rt_check_declared.specs.Written.{Names, written}
-use Rattle.rt_check_bodies.specs.Sights.{Sight}
+use Rattle.rt_exprs.specs.Sights.{Sight}
 use Rattle.rt_check_bodies.specs.Procedures.{procedure}
 use Rattle.rt_check_declared.specs.Names.{bricks_in as brick_count}
 use Rattle.rt_check_declared.specs.Fields.{written_fields, faults_by}

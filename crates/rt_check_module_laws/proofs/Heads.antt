@@ -21,7 +21,8 @@ use Rattle.rt_check_declared.specs.Verdicts.{Verdict, fit, unfit, outcome}
 use Rattle.rt_check_declared.specs.Written.{Names, written}
 use Rattle.rt_check_bodies.specs.declared.tally.Tally.{Tally}
 use Rattle.rt_check_bodies.specs.Parts.{mode_or, noted, noted_if}
-use Rattle.rt_check_bodies.specs.Sights.{Names as Level, Sight, holds, scope_of, mode_in, variable_by}
+use Rattle.rt_exprs.specs.Sights.{Names as Level, Sight, holds}
+use Rattle.rt_check_bodies.specs.Sights.{mode_in, variable_by}
 use Rattle.rt_check_declared.specs.Fields.{fields_by, written_fields, faults_by, mode_faults}
 use Rattle.rt_check_declared.specs.Bricks.{result_by, result_line, result_faults}
 use Rattle.rt_check_declared.specs.Parts.{line_by}
@@ -50,9 +51,9 @@ locals_joined [] gs = refl
 locals_joined (f ∷ fs) gs = ap (λ (ls : List Made). made.Variable f.mode ∷ ls) (locals_joined fs gs)
 
 -- where the names of MODEs are those that the sight has
-module _ (names : Names) (s : Sight) (same : SameModes names (find (scope_of s))) where
+module _ (names : Names) (s : Sight) (same : SameModes names (find s)) where
   found_mode : (at : At) (w : WrittenMode) (v : Verdict Resolved) → written names w site.Variable ≡ v → mode_in s at w ≡ outcome v >>= variable_by at
-  found_mode at w v e = ap (λ (x : Verdict Resolved). outcome x >>= variable_by at) (sym (same_written names (find (scope_of s)) same w site.Variable) ∙ e)
+  found_mode at w v e = ap (λ (x : Verdict Resolved). outcome x >>= variable_by at) (sym (same_written names (find s) same w site.Variable) ∙ e)
 
   mode_is : (at : At) (w : WrittenMode) (m : Mode) → written names w site.Variable ≡ fit (resolved.Mode m) → mode_in s at w ≡ Ok m
   mode_is at w m e = found_mode at w (fit (resolved.Mode m)) e

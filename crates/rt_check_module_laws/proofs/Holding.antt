@@ -8,7 +8,7 @@ use Rattle.rt_pieces.specs.declared.item.Item.{Item}
 use Rattle.rt_tree_nodes.specs.declared.brick.Local.{Local}
 use Rattle.rt_tree_nodes.specs.Scopes.{Scope, scope_of, with_locals}
 use Rattle.rt_tree.specs.Statements.{Sight as Seen}
-use Rattle.rt_check_bodies.specs.Sights.{Sight, set_of}
+use Rattle.rt_exprs.specs.Sights.{Sight}
 use Rattle.rt_check_declared.specs.Names.{scope}
 use Rattle.rt_check_declared.specs.Names.{bricks_in as brick_count}
 use Rattle.rt_check_declared.specs.declared.bricks.Heading.{Heading}
@@ -59,10 +59,6 @@ headings_filled ds = all_filled (sight ds) (headings ds) ds ds
 
 -- ---- strings
 
-key_count : (ks : List ℕ) → length (set_of ks).keys ≡ length ks
-key_count [] = refl
-key_count (k ∷ ks) = ap suc (key_count ks)
-
 -- ---- the whole
 
 pub good_headings : (items : List Item) (m : Module) → IsText items m → IsFaultless m.declarations → AllByRecursion HeadingGood (headings m.declarations)
@@ -73,10 +69,9 @@ pub names_are_held : (items : List Item) (m : Module) (ls : List Local) (seen : 
 names_are_held items m ls seen t h =
     let ds : List Declaration = m.declarations in
     let c : Scope = with_locals (scope_of (tree m)) ls in
-    let items_of : List ℕ = map (λ x. x.0) (texts ds) in
     record {
       records = refl;
       fields = records_have_items (modes_seen ds) (length (records ds).records) (modes_are_records ds) ds (text_shallow items m t) (modes_fit ds h);
-      strings = key_count items_of ∙ length_mapped _ (texts ds) ∙ sym (length_mapped _ (texts ds));
+      strings = length_mapped _ (texts ds) ∙ sym (length_mapped _ (texts ds));
       levels = (names_hold c refl refl (headings ds) (fillings ds) (headings_filled ds) refl (good_headings items m t h) seen (scope ds), tt);
     }

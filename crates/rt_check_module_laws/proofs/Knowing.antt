@@ -6,7 +6,7 @@ use Rattle.rt_modes.specs.declared.mode.Mode.TheOpen.{Mode-F}
 use Rattle.rt_tree_nodes.specs.declared.brick.Kind.{Kind}
 use Rattle.rt_tree_nodes.specs.Scopes.{is_svc}
 use Rattle.rt_exprs.specs.declared.scope.Meaning.TheVariants as meaning
-use Rattle.rt_check_bodies.specs.Sights.{Names as Level}
+use Rattle.rt_exprs.specs.Sights.{Names as Level}
 use Rattle.rt_check_declared.specs.declared.names.Declared.{Declared}
 use Rattle.rt_check_declared.specs.declared.names.Declared.TheVariants as what
 use Rattle.rt_check_declared.specs.Names.{Known}

@@ -20,8 +20,7 @@ use Rattle.rt_exprs.specs.Operands.{or_else}
 use Rattle.rt_check_declared.specs.declared.site.Site.{Site}
 use Rattle.rt_check_declared.specs.Verdicts.{fit, ◌>>=◌}
 use Rattle.rt_check_declared.specs.Written.{Names, Anywhere, named, judge, judged, counted, written}
-use Rattle.rt_check_bodies.specs.Sights.{holds, declared, lent_name}
-use Rattle.rt_check_bodies.specs.Sights.{Names as Level}
+use Rattle.rt_exprs.specs.Sights.{holds, declared, Names as Level}
 use Rattle.rt_check_declared.specs.declared.names.Declared.{Declared}
 use Rattle.rt_check_declared.specs.declared.names.Declared.TheVariants as what
 use Rattle.rt_check_declared.specs.Names.{Known, find}
@@ -50,7 +49,7 @@ or_same : {A : Type 0} (o p q : Option A) → or_else (or_else o p) q ≡ or_els
 or_same None p q = refl
 or_same (Some x) p q = refl
 
-looked : (l : Level) (n : List ℕ) → lookup (λ k. bytes_eq n k.now) (map lent_name l) ≡ look l n
+looked : (l : Level) (n : List ℕ) → lookup (bytes_eq n) l ≡ look l n
 looked [] n = refl
 looked (x ∷ xs) n = ap (λ (o : Option Meaning). if bytes_eq n x.0 then Some x.1 else o) (looked xs n)
 

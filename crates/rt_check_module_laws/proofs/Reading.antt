@@ -9,7 +9,7 @@ use Rattle.rt_pieces.specs.declared.item.Item.{Item}
 use Rattle.rt_tree_nodes.specs.declared.brick.Brick.{Brick}
 use Rattle.rt_tree.specs.Within.{Within}
 use Rattle.rt_check_declared.specs.Written.{Names}
-use Rattle.rt_check_bodies.specs.Sights.{Sight}
+use Rattle.rt_exprs.specs.Sights.{Sight}
 use Rattle.rt_check_bodies.specs.Procedures.{procedure, faults}
 use Rattle.rt_check_declared.specs.Names.{bricks_in as brick_count}
 use Rattle.rt_check_declared.specs.declared.bricks.Heading.{Heading}

@@ -20,7 +20,7 @@ use Rattle.rt_modes.specs.declared.mode.RecordDef.{RecordDef}
 use Rattle.rt_tree_nodes.specs.declared.brick.DataStart.{DataStart}
 use Rattle.rt_tree_nodes.specs.Scopes.{Scope}
 use Rattle.rt_exprs.specs.declared.fault.CheckFault.{CheckFault}
-use Rattle.rt_exprs.specs.declared.scope.Scope.{Scope as Names}
+use Rattle.rt_exprs.specs.Sights.{Sight}
 use Rattle.rt_exprs.specs.Names.{find}
 use Rattle.rt_syntax.specs.Strings.{Texts}
 use Rattle.rt_tree.specs.Modules.{starts, fields_start, items_start}
@@ -84,23 +84,23 @@ more_parts n m (Some gs) fs e = (gs, refl, sym (inside (record { name = n; mode 
 no_parts : (fs : List Field) → Some [] ≡ Some fs → fs ≡ []
 no_parts fs e = cc
 
-module _ (s : Names) (c : Scope) (agree : Agree s c) (known : (name : List ℕ) (is : Meaning) → find s name ≡ Some is → IsKnown is) (whole : AreRecordsWhole s.modes.now.records) where
+module _ (s : Sight) (c : Scope) (agree : Agree s c) (known : (name : List ℕ) (is : Meaning) → find s name ≡ Some is → IsKnown is) (whole : AreRecordsWhole s.records) where
   abbrev rs : List RecordDef
-  rs = s.modes.now.records
+  rs = s.records
 
   -- ---- an item
 
-  a_written_start : (x : Start) (prior : Texts) (m : Mode) → AreBytes (in_start x prior) → BeginAt s.strings.now.keys (texts (used rs x m) x) → (written_in s x).fits m ≡ true → starts c ((written_in s x).made m) m ≡ true
-  a_written_start x prior m b t h = start_fits c rs (find s) s.strings.now.keys (used rs x m) agree.records agree.strings agree.names known whole.items x prior m b t (all_used (used rs x m) (used rs x m) (λ k e. e)) h
+  a_written_start : (x : Start) (prior : Texts) (m : Mode) → AreBytes (in_start x prior) → BeginAt s.strings (texts (used rs x m) x) → (written_in s x).fits m ≡ true → starts c ((written_in s x).made m) m ≡ true
+  a_written_start x prior m b t h = start_fits c rs (find s) s.strings (used rs x m) agree.records agree.strings agree.names known whole.items x prior m b t (all_used (used rs x m) (used rs x m) (λ k e. e)) h
 
-  item_fits : (at : At) (o : Option Start) (m : Mode) (prior : Texts) → GivenStands rs (given.Mode m) → AreBytes (in_any o prior) → BeginAt s.strings.now.keys (start_texts rs o (given.Mode m)) → start_faults s at o m ≡ [] → starts c (start_of s o m) m ≡ true
+  item_fits : (at : At) (o : Option Start) (m : Mode) (prior : Texts) → GivenStands rs (given.Mode m) → AreBytes (in_any o prior) → BeginAt s.strings (start_texts rs o (given.Mode m)) → start_faults s at o m ≡ [] → starts c (start_of s o m) m ≡ true
   item_fits at None m prior k b t e = default_fits c rs agree.records whole m k.0 k.1 (not_bad (has_default rs m) at e)
   item_fits at (Some x) m prior k b t e = a_written_start x prior m b t (written_fits at (written_in s x) m e)
 
   -- ---- the items of a line, which have the first parts
 
   abbrev Ready : List DataItem → List Part → Texts → Type 0
-  Ready is ps prior = AreBytes (in_items is prior) × BeginAt s.strings.now.keys (items_texts rs is ps)
+  Ready is ps prior = AreBytes (in_items is prior) × BeginAt s.strings (items_texts rs is ps)
 
   -- the fields of the items, and those behind them
   pub record Split (is : List DataItem) (ps : List Part) (fs : List Field) : Type 0 where
@@ -119,37 +119,37 @@ module _ (s : Names) (c : Scope) (agree : Agree s c) (known : (name : List ℕ) 
     start = ap (λ (g : Given). starts c (start_by s i.start g) m && fields_start (map (starts c) (items_starts s is ps)) split.these) has ∙ rw h split.start;
   }
 
-  by_given : (i : DataItem) (is : List DataItem) (p : Part) (ps : List Part) (fs : List Field) (prior : Texts) (g : Given) → p.has ≡ g → GivenStands rs g → AreBytes (in_items is (in_any i.start prior)) → BeginAt s.strings.now.keys (start_texts rs i.start g ++ items_texts rs is ps)
+  by_given : (i : DataItem) (is : List DataItem) (p : Part) (ps : List Part) (fs : List Field) (prior : Texts) (g : Given) → p.has ≡ g → GivenStands rs g → AreBytes (in_items is (in_any i.start prior)) → BeginAt s.strings (start_texts rs i.start g ++ items_texts rs is ps)
       → faults_by s i.name.at i.start g ++ items_faults s is ps ≡ [] → with_field p.name g (all_fields ps) ≡ Some fs → ((gs : List Field) → all_fields ps ≡ Some gs → Split is ps gs) → Split (i ∷ is) (p ∷ ps) fs
   by_given i is p ps fs prior given.Unknown has k b t e fields go = absurd cc
   by_given i is p ps fs prior (given.Mode m) has k b t e fields go =
       let (gs, there, is_so) = more_parts p.name m (all_fields ps) fs fields in
       one_more i is p ps m fs gs has is_so
-      (item_fits i.name.at i.start m prior k (items_keep is (in_any i.start prior) b) (all_left (λ (x : ℕ × List ℕ). is_in s.strings.now.keys x.0 ≡ true) (start_texts rs i.start (given.Mode m)) (items_texts rs is ps) t)
+      (item_fits i.name.at i.start m prior k (items_keep is (in_any i.start prior) b) (all_left (λ (x : ℕ × List ℕ). is_in s.strings x.0 ≡ true) (start_texts rs i.start (given.Mode m)) (items_texts rs is ps) t)
       (none_left (start_faults s i.name.at i.start m) (items_faults s is ps) e))
       (go gs there)
 
-  items_fit : (is : List DataItem) (ps : List Part) (fs : List Field) (prior : Texts) (more : ℕ) → length ps ≡ length is + more → AllByRecursion (λ (p : Part). GivenStands rs p.has) ps → AreBytes (in_items is prior) → BeginAt s.strings.now.keys (items_texts rs is ps) → items_faults s is ps ≡ [] → all_fields ps ≡ Some fs → Split is ps fs
+  items_fit : (is : List DataItem) (ps : List Part) (fs : List Field) (prior : Texts) (more : ℕ) → length ps ≡ length is + more → AllByRecursion (λ (p : Part). GivenStands rs p.has) ps → AreBytes (in_items is prior) → BeginAt s.strings (items_texts rs is ps) → items_faults s is ps ≡ [] → all_fields ps ≡ Some fs → Split is ps fs
   items_fit [] ps fs prior more n k b t e fields = record { these = []; rest = fs; together = refl; behind = fields; start = refl }
   items_fit (i ∷ is) [] fs prior more n k b t e fields = absurd (omega (arith, n))
   items_fit (i ∷ is) (p ∷ ps) fs prior more n k b t e fields =
       by_given i is p ps fs prior p.has refl k.0 b t e fields
-      (λ gs there. items_fit is ps gs (in_any i.start prior) more (omega (arith, n)) k.1 b (all_right (λ (x : ℕ × List ℕ). is_in s.strings.now.keys x.0 ≡ true) (start_texts rs i.start p.has) (items_texts rs is ps) t)
+      (λ gs there. items_fit is ps gs (in_any i.start prior) more (omega (arith, n)) k.1 b (all_right (λ (x : ℕ × List ℕ). is_in s.strings x.0 ≡ true) (start_texts rs i.start p.has) (items_texts rs is ps) t)
       (none_right (faults_by s i.name.at i.start p.has) (items_faults s is ps) e) there)
 
   -- ---- the lines
 
-  lines_fit : (ls : List DataLine) (ps : List Part) (fs : List Field) (prior : Texts) → length ps ≡ items_in ls → AllByRecursion (λ (p : Part). GivenStands rs p.has) ps → AreBytes (in_lines ls prior) → BeginAt s.strings.now.keys (brick_texts rs ls ps) → brick_faults s ls ps ≡ [] → all_fields ps ≡ Some fs
+  lines_fit : (ls : List DataLine) (ps : List Part) (fs : List Field) (prior : Texts) → length ps ≡ items_in ls → AllByRecursion (λ (p : Part). GivenStands rs p.has) ps → AreBytes (in_lines ls prior) → BeginAt s.strings (brick_texts rs ls ps) → brick_faults s ls ps ≡ [] → all_fields ps ≡ Some fs
       → fields_start (map (starts c) (brick_starts s ls ps)) fs ≡ true
   lines_fit [] [] fs prior n k b t e fields = rw (no_parts fs fields) refl
   lines_fit [] (p ∷ ps) fs prior n k b t e fields = absurd (omega (arith, n))
   lines_fit (l ∷ ls) ps fs prior n k b t e fields =
       let split : Split l.items ps fs =
-      items_fit l.items ps fs prior (items_in ls) n k (lines_keep ls (in_items l.items prior) b) (all_left (λ (x : ℕ × List ℕ). is_in s.strings.now.keys x.0 ≡ true) (items_texts rs l.items ps) (brick_texts rs ls (drop (length l.items) ps)) t)
+      items_fit l.items ps fs prior (items_in ls) n k (lines_keep ls (in_items l.items prior) b) (all_left (λ (x : ℕ × List ℕ). is_in s.strings x.0 ≡ true) (items_texts rs l.items ps) (brick_texts rs ls (drop (length l.items) ps)) t)
       (none_left (items_faults s l.items ps) (brick_faults s ls (drop (length l.items) ps)) e) fields in
       let left : length (drop (length l.items) ps) ≡ items_in ls = omega (arith, n, length-drop (length l.items) ps) in
       let rest : fields_start (map (starts c) (brick_starts s ls (drop (length l.items) ps))) split.rest ≡ true =
-      lines_fit ls (drop (length l.items) ps) split.rest (in_items l.items prior) left (all_dropped (λ (p : Part). GivenStands rs p.has) (length l.items) ps k) b (all_right (λ (x : ℕ × List ℕ). is_in s.strings.now.keys x.0 ≡ true) (items_texts rs l.items ps) (brick_texts rs ls (drop (length l.items) ps)) t)
+      lines_fit ls (drop (length l.items) ps) split.rest (in_items l.items prior) left (all_dropped (λ (p : Part). GivenStands rs p.has) (length l.items) ps k) b (all_right (λ (x : ℕ × List ℕ). is_in s.strings x.0 ≡ true) (items_texts rs l.items ps) (brick_texts rs ls (drop (length l.items) ps)) t)
       (none_right (items_faults s l.items ps) (brick_faults s ls (drop (length l.items) ps)) e) split.behind in
       subst (λ (gs : List Field). fields_start (map (starts c) (items_starts s l.items ps ++ brick_starts s ls (drop (length l.items) ps))) gs ≡ true) split.together
       (joined_fields c split.these split.rest (items_starts s l.items ps) (brick_starts s ls (drop (length l.items) ps)) split.start rest)

@@ -14,7 +14,7 @@ use Rattle.rt_exprs.specs.declared.scope.Meaning.{Meaning}
 use Rattle.rt_exprs.specs.declared.scope.Meaning.TheVariants as meaning
 use Rattle.rt_tree.specs.Statements.{Sight as Seen}
 use Rattle.rt_exprs_laws.specs.Agreeing.{IsThere, IsItem, IsValue}
-use Rattle.rt_check_bodies.specs.Sights.{Names as Level}
+use Rattle.rt_exprs.specs.Sights.{Names as Level}
 use Rattle.rt_check_declared.specs.declared.names.Declared.{Declared}
 use Rattle.rt_check_declared.specs.declared.names.Declared.TheVariants as what
 use Rattle.rt_check_declared.specs.Names.{Known}

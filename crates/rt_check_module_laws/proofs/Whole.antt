@@ -19,8 +19,7 @@ use Rattle.rt_exprs_laws.specs.Agreeing.{Agree}
 use Rattle.rt_check_declared.specs.declared.site.Site.TheVariants as site
 use Rattle.rt_check_declared.specs.Verdicts.{IsIn}
 use Rattle.rt_check_declared.specs.Written.{Names}
-use Rattle.rt_check_bodies.specs.Sights.{Sight, set_of}
-use Rattle.rt_check_bodies.specs.Sights.{scope_of as names_of}
+use Rattle.rt_exprs.specs.Sights.{Sight}
 use Rattle.rt_check_bodies.specs.Procedures.{procedure, faults, nothing_yet, parameters, answer_in}
 use Rattle.rt_check_declared.specs.Names.{scope}
 use Rattle.rt_check_module.specs.Levels.{module_names}
@@ -75,7 +74,7 @@ use Rattle.rt_check_module_laws.proofs.Texts.{ShortIn, texts_short, short_bytes,
 
 -- no fault stands inside a declaration
 abbrev pub NoneInside : Table → Sight → Names → Declaration → Type 0
-NoneInside t s names (declares.Data d) = (g : CheckFault) → BrickFault t (names_of s) d.lines (item_parts names d.lines) g → ⊥
+NoneInside t s names (declares.Data d) = (g : CheckFault) → BrickFault t s d.lines (item_parts names d.lines) g → ⊥
 NoneInside t s names (declares.Procedure p) = (g : CheckFault) → IsIn g (faults s p) → ⊥
 NoneInside t s names _ = Unit {0}
 
@@ -97,10 +96,6 @@ module _ (t : Table) (s : Sight) (names : Names) where
         one_inside d ys (λ g k. h g (inl k)),
         none_inside ds (λ g k. h g (inr (subst (λ (hs : List Heading). Somewhere (Inside s t g) hs ds) (sym (drop_joined xs ys (brick_count d) (headings_counted names d))) k))),
       )
-
-key_list : (ks : List ℕ) → (set_of ks).keys ≡ ks
-key_list [] = refl
-key_list (k ∷ ks) = ap (λ (rest : List ℕ). k ∷ rest) (key_list ks)
 
 -- what the grammar gives of a declaration, and what no fault in it means
 record Known (t : Table) (s : Sight) (names : Names) (ts : List (ℕ × List ℕ)) (d : Declaration) : Type 0 where
@@ -136,13 +131,13 @@ module _ (items : List Item) (m : Module) (text : IsText items m) (fine : IsFaul
   holds : (ls : List Local) (seen : Seen) → Holds (with_locals c ls) s seen
   holds ls seen = names_are_held items m ls seen text fine
 
-  agree : Agree (names_of s) c
+  agree : Agree s c
   agree = agrees c s (record { seen = []; outermost = 0; result = None }) (holds [] (record { seen = []; outermost = 0; result = None }))
 
   all_seen_known : AllKnown s
   all_seen_known = (names_known (headings ds) (good_headings items m text fine) (scope ds), tt)
 
-  known_names : (name : List ℕ) (is : Meaning) → find (names_of s) name ≡ Some is → IsKnown is
+  known_names : (name : List ℕ) (is : Meaning) → find s name ≡ Some is → IsKnown is
   known_names name is e = found_each IsKnown name s.levels is all_seen_known e
 
   -- the items of own data may stand, and the records that they hold are there
@@ -153,7 +148,7 @@ module _ (items : List Item) (m : Module) (text : IsText items m) (fine : IsFaul
     by_given (given.Mode x) h = (alone_is_item n x h, λ r q. held_below n x standing.Alone 100 8 r h q)
     by_given given.Unknown h = tt
 
-  same : SameModes names (find (names_of s))
+  same : SameModes names (find s)
   same = same_modes (headings ds) (scope ds) (scope_once ds)
 
   named : NamesRecords n s
@@ -179,10 +174,9 @@ module _ (items : List Item) (m : Module) (text : IsText items m) (fine : IsFaul
   data_fits d k hs =
       let ps : List Part = item_parts names d.lines in
       let z = are_fields (ItemStands n) ps (items_stand names n known d.lines k.none k.shallow) in
-      let none : start_faults (names_of s) d.lines ps ≡ [] = nothing_in (start_faults (names_of s) d.lines ps) (λ g e. k.fits g (in_items e)) in
-      let there : BeginAt (set_of s.strings).keys (brick_texts (records ds).records d.lines ps) = subst (λ (ks : List ℕ). BeginAt ks (brick_texts (records ds).records d.lines ps)) (sym (key_list s.strings)) k.there in
-      let ready : IsReady (names_of s) c d.lines ps = record { agree = agree; known = known_names; whole = records_whole ds (text_shallow items m text) fine; stand = parts_stand ps (items_stand names n known d.lines k.none k.shallow); parts = each_item_has_a_part names d.lines; bytes = short_bytes (in_lines d.lines []) k.short; strings = there } in
-      both_true _ true (own_data_fits c n refl d ps (brick_starts (names_of s) d.lines ps) z (starts_fit (names_of s) c d.lines ps z.fields ready z.is none)) refl
+      let none : start_faults s d.lines ps ≡ [] = nothing_in (start_faults s d.lines ps) (λ g e. k.fits g (in_items e)) in
+      let ready : IsReady s c d.lines ps = record { agree = agree; known = known_names; whole = records_whole ds (text_shallow items m text) fine; stand = parts_stand ps (items_stand names n known d.lines k.none k.shallow); parts = each_item_has_a_part names d.lines; bytes = short_bytes (in_lines d.lines []) k.short; strings = k.there } in
+      both_true _ true (own_data_fits c n refl d ps (brick_starts s d.lines ps) z (starts_fit s c d.lines ps z.fields ready z.is none)) refl
 
   -- ---- all bricks
 

@@ -9,7 +9,7 @@ use Rattle.rt_check_declared.specs.Totals.{all_fields}
 use Rattle.rt_modes.specs.declared.mode.Field.{Field}
 use Rattle.rt_tree_nodes.specs.declared.brick.DataStart.{DataStart}
 use Rattle.rt_tree_nodes.specs.Scopes.{Scope}
-use Rattle.rt_exprs.specs.declared.scope.Scope.{Scope as Names}
+use Rattle.rt_exprs.specs.Sights.{Sight}
 use Rattle.rt_items.specs.Ranges.{IsByte}
 use Rattle.rt_sizes.specs.Sizes.{Table}
 use Rattle.rt_check_starts.specs.Bricks.{AreStarts}
@@ -54,27 +54,27 @@ GivenStands records (given.Mode m) = IsItem m × ((r : ℕ) → held m ≡ Some 
 GivenStands records given.Unknown = Unit {0}
 
 -- Of a data brick with these lines and parts, where names stand for what is there in the tree.
-pub record IsReady (s : Names) (c : Scope) (ls : List DataLine) (ps : List Part) : Type 0 where
+pub record IsReady (s : Sight) (c : Scope) (ls : List DataLine) (ps : List Part) : Type 0 where
   pub agree : Agree s c
   -- what names stand for can be known, and so can the modes of all fields; the modes of the items may stand
   pub known : (name : List ℕ) (is : Meaning) → find s name ≡ Some is → IsKnown is
-  pub whole : AreRecordsWhole s.modes.now.records
-  pub stand : AllByRecursion (λ p. GivenStands s.modes.now.records p.has) ps
+  pub whole : AreRecordsWhole s.records
+  pub stand : AllByRecursion (λ p. GivenStands s.records p.has) ps
   -- each item has a part
   pub parts : length ps ≡ items_in ls
   -- all strings of the starts are bytes, and those that are strings of the module are among its strings
   pub bytes : AreBytes (in_lines ls [])
-  pub strings : BeginAt s.strings.now.keys (brick_texts s.modes.now.records ls ps)
+  pub strings : BeginAt s.strings (brick_texts s.records ls ps)
 
 -- ---- the law
 
 -- the starts of items in which no fault stands
 abbrev pub StartsFit : Type 0
-StartsFit = (s : Names) (c : Scope) (ls : List DataLine) (ps : List Part) (fs : List Field) → IsReady s c ls ps → all_fields ps ≡ Some fs → brick_faults s ls ps ≡ [] → items_start c (brick_starts s ls ps) fs ≡ true
+StartsFit = (s : Sight) (c : Scope) (ls : List DataLine) (ps : List Part) (fs : List Field) → IsReady s c ls ps → all_fields ps ≡ Some fs → brick_faults s ls ps ≡ [] → items_start c (brick_starts s ls ps) fs ≡ true
 
 -- the starts that are read
 abbrev pub ReadStartsFit : Type 0
-ReadStartsFit = (t : Table) (s : Names) (c : Scope) (ls : List DataLine) (ps : List Part) (fs : List Field) (ss : List DataStart) → IsReady s c ls ps → all_fields ps ≡ Some fs → AreStarts t s ls ps ss → items_start c ss fs ≡ true
+ReadStartsFit = (t : Table) (s : Sight) (c : Scope) (ls : List DataLine) (ps : List Part) (fs : List Field) (ss : List DataStart) → IsReady s c ls ps → all_fields ps ≡ Some fs → AreStarts t s ls ps ss → items_start c ss fs ≡ true
 
 -- where no fault stands in the modes of a brick's lines, each item is declared with a mode
 abbrev pub AllAreFields : Type 0

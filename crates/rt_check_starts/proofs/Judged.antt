@@ -6,7 +6,7 @@ use Rattle.rt_check_declared.specs.declared.parts.Part.{Part}
 use Rattle.rt_check_declared.specs.Totals.{LargeFault}
 use Rattle.rt_tree_nodes.specs.declared.brick.DataStart.{DataStart}
 use Rattle.rt_exprs.specs.declared.fault.CheckFault.{CheckFault}
-use Rattle.rt_exprs.specs.declared.scope.Scope.{Scope}
+use Rattle.rt_exprs.specs.Sights.{Sight}
 use Rattle.rt_exprs.specs.Outcomes.{IsLeast, UnlessMemory}
 use Rattle.rt_exprs.proofs.Joins.{given}
 use Rattle.rt_check_declared.specs.Heads.{noted}
@@ -40,7 +40,7 @@ else_judged o n r fs other is none note = note ∙ sym (ap (λ (x : List CheckFa
 
 -- ---- one more item, one more line
 
-module _ (s : Scope) where
+module _ (s : Sight) where
   pub item_step : (is : List DataItem) (i : ℕ) (x : DataItem) (ps rest : List Part) (p : Part) (o q t : Option CheckFault) → i < length is → x ≡ get_or is i x → ps ≡ p ∷ rest → q ≡ with_faults o (faults_by s x.name.at x.start p.has)
       → with_faults o (items_faults s (drop i is) ps) ≡ t → with_faults q (items_faults s (drop (i + 1) is) rest) ≡ t
   item_step is i x ps rest p o q t h e next note kept =
@@ -60,7 +60,7 @@ module _ (s : Scope) where
 not_in : (fs : List CheckFault) (g : CheckFault) → fs ≡ [] → IsIn g fs → ⊥
 not_in fs g e h = subst (λ (x : List CheckFault). IsIn g x) e h
 
-module _ (t : Table) (s : Scope) (ls : List DataLine) (ps : List Part) where
+module _ (t : Table) (s : Sight) (ls : List DataLine) (ps : List Part) where
   pub item_counts : (r : Option CheckFault) (g : CheckFault) → r ≡ with_faults None (brick_faults s ls ps) → r ≡ Some g → UnlessMemory g (IsLeast (BrickFault t s ls ps) g)
   item_counts r g is some =
       let one = one_counts (brick_faults s ls ps) r g is some in

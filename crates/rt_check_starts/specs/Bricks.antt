@@ -5,12 +5,12 @@ use Rattle.rt_check_declared.specs.declared.parts.Part.{Part}
 use Rattle.rt_check_declared.specs.Totals.{LargeFault}
 use Rattle.rt_tree_nodes.specs.declared.brick.DataStart.{DataStart}
 use Rattle.rt_exprs.specs.declared.fault.CheckFault.{CheckFault}
-use Rattle.rt_exprs.specs.declared.scope.Scope.{Scope}
+use Rattle.rt_exprs.specs.Sights.{Sight}
 use Rattle.rt_sizes.specs.Sizes.{Table}
 use Rattle.rt_check_declared.specs.Verdicts.{IsIn}
 use Rattle.rt_check_starts.specs.Items.{brick_faults, brick_starts}
 
-module _ (t : Table) (s : Scope) (ls : List DataLine) (ps : List Part) where
+module _ (t : Table) (s : Sight) (ls : List DataLine) (ps : List Part) where
   -- A fault stands in an item. Where none does the brick is judged as a whole, and may be too large.
   pub data BrickFault : CheckFault → Type 0 where
     in_items : {g : CheckFault} → IsIn g (brick_faults s ls ps) → BrickFault g

@@ -13,7 +13,7 @@ use Rattle.rt_tree_nodes.specs.declared.brick.DataStart.{DataStart}
 use Rattle.rt_tree_nodes.specs.declared.brick.DataStart.TheVariants as start
 use Rattle.rt_exprs.specs.declared.fault.CheckFault.{CheckFault}
 use Rattle.rt_exprs.specs.declared.fault.CheckFault.TheVariants as fault
-use Rattle.rt_exprs.specs.declared.scope.Scope.{Scope}
+use Rattle.rt_exprs.specs.Sights.{Sight}
 use Rattle.rt_check_starts.specs.Defaults.{has_default, default}
 use Rattle.rt_check_starts.specs.Starts.{Written, written_in}
 
@@ -35,9 +35,9 @@ known_faults at w m = or_else (w.private m) (bad_unless (w.fits m && w.copies ==
 abbrev pub written_faults : At → Written → Mode → List CheckFault
 written_faults at w m = or_else w.unknown (known_faults at w m)
 
-module _ (s : Scope) where
+module _ (s : Sight) where
   abbrev pub records : List RecordDef
-  records = s.modes.now.records
+  records = s.records
 
   abbrev pub unknown_in : Option Start → List CheckFault
   unknown_in None = []

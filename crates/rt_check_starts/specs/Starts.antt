@@ -15,7 +15,7 @@ use Rattle.rt_modes.specs.declared.mode.RecordDef.{RecordDef}
 use Rattle.rt_tree_nodes.specs.declared.brick.DataStart.{DataStart}
 use Rattle.rt_tree_nodes.specs.declared.brick.DataStart.TheVariants as start
 use Rattle.rt_exprs.specs.declared.fault.CheckFault.{CheckFault}
-use Rattle.rt_exprs.specs.declared.scope.Scope.{Scope}
+use Rattle.rt_exprs.specs.Sights.{Sight}
 use Rattle.rt_exprs.specs.Modes.{is_byte}
 use Rattle.rt_exprs.specs.Names.{find}
 use Rattle.rt_exprs.specs.Operands.{is_label}
@@ -239,5 +239,5 @@ module _ (records : List RecordDef) (names : Names) (strings : List ℕ) where
   written = fold-Start Written written_layer
 
 -- the same in a scope
-abbrev pub written_in : Scope → Start → Written
-written_in s = written s.modes.now.records (find s) s.strings.now.keys
+abbrev pub written_in : Sight → Start → Written
+written_in s = written s.records (find s) s.strings

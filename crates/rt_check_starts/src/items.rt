@@ -81,7 +81,7 @@ fn judge_item(
     given: &Given,
     faults: &mut Option<CheckFault>,
 )
-    requires { AreDefaults scope.now.modes.now.records defaults.now }
+    requires { AreDefaults scope.now.records defaults.now }
     ensures { faults.new ≡ with_faults faults.old (spec.faults_by scope.now item.now.name.at item.now.start given.now) }
 {
     match given {
@@ -104,7 +104,7 @@ fn judge_items(
     parts: &[Part],
     faults: &mut Option<CheckFault>,
 )
-    requires { AreDefaults scope.now.modes.now.records defaults.now }
+    requires { AreDefaults scope.now.records defaults.now }
     ensures { faults.new ≡ with_faults faults.old (spec.items_faults scope.now items.now parts.now) }
 {
     let mut left = parts;
@@ -149,7 +149,7 @@ pub fn judge_starts(
 ) -> Result<Option<CheckFault>, Memory>
     ensures { IfOk result (λ f. f ≡ with_faults None (spec.brick_faults scope.now lines.now parts.now)) }
 {
-    let defaults = records_with_default(alloc, scope.modes.table())?;
+    let defaults = records_with_default(alloc, scope.table())?;
     Ok(judge_lines(scope, defaults.as_slice(), lines, parts))
 }
 
@@ -160,7 +160,7 @@ fn judge_lines(
     lines: &[DataLine],
     parts: &[Part],
 ) -> Option<CheckFault>
-    requires { AreDefaults scope.now.modes.now.records defaults.now }
+    requires { AreDefaults scope.now.records defaults.now }
     ensures { result ≡ with_faults None (spec.brick_faults scope.now lines.now parts.now) }
 {
     let mut faults = None;
@@ -183,7 +183,7 @@ fn make_item(
 {
     match given {
         Given::Mode(mode) => match start {
-            None => make_default(alloc, scope.modes.table(), mode),
+            None => make_default(alloc, scope.table(), mode),
             Some(start) => make_start(alloc, scope, start, mode),
         },
         Given::Unknown => Ok(DataStart::Number(0)),

@@ -53,7 +53,7 @@ pub fn judge(scope: &Scope<'_>, start: &Start, mode: &Mode, faults: &mut Option<
             note_private(name.at, found, mode, faults);
             place_fits(found, mode)
         }
-        Start::List(parts, _, _) => match want(scope.modes.table(), parts.as_slice(), mode) {
+        Start::List(parts, _, _) => match want(scope.table(), parts.as_slice(), mode) {
             Wanted::Elements(of) => judge_each(scope, parts.as_slice(), of, faults),
             Wanted::Fields(fields) => judge_fields(scope, parts.as_slice(), fields, faults),
             Wanted::Nothing => false,

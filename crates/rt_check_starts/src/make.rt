@@ -33,9 +33,9 @@ pub fn make_start(
         }
         Start::Place(name, selectors) => {
             let found = find_place(scope, name, selectors.as_slice());
-            make_place(alloc, scope.modes, selectors.as_slice(), found)
+            make_place(alloc, scope.modes(), selectors.as_slice(), found)
         }
-        Start::List(parts, _, _) => match want(scope.modes.table(), parts.as_slice(), mode) {
+        Start::List(parts, _, _) => match want(scope.table(), parts.as_slice(), mode) {
             Wanted::Elements(of) => {
                 let made = make_each(alloc, scope, parts.as_slice(), of)?;
                 Ok(DataStart::List(made))
@@ -106,9 +106,9 @@ fn word(sign: Option<Sign>, number: u16) -> u16
 
 /// The number of the string of the module that begins at an item.
 fn number_of(scope: &Scope<'_>, item: u16) -> u16
-    ensures { result ≡ spec.number_of scope.now.strings.now.keys item }
+    ensures { result ≡ spec.number_of scope.now.strings item }
 {
-    match scope.strings.get_index_of(&item) {
+    match scope.string_at(item) {
         Some(number) if number < 65536 => number as u16,
         _ => 0,
     }

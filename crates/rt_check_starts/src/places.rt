@@ -131,11 +131,11 @@ fn path(
 
 /// What a name with selectors is.
 pub fn find_place<'a>(scope: &Scope<'a>, name: &Ident, selectors: &[Selector]) -> Found<'a>
-    ensures { found_of result ≡ spec.found scope.now.modes.now.records name.now.at selectors.now (find scope.now name.now.name) }
+    ensures { found_of result ≡ spec.found scope.now.records name.now.at selectors.now (find scope.now name.now.name) }
 {
     match find_name(scope, name.name.as_slice()) {
         None => Found::Unfit(CheckFault::UnknownName(name.at)),
-        Some(meaning) => place_of(scope.modes, name.at, selectors, meaning),
+        Some(meaning) => place_of(scope.modes(), name.at, selectors, meaning),
     }
 }
 

@@ -1,5 +1,5 @@
 -- Outcomes that are joined.
-use Rattle.std.proofs.Common.{◌≡◌, ℕ, ◌==◌, ◌&&◌, ◌||◌, Bool, true, false, not, List, Option, None, Result, Ok, Err, ◌⊎◌, inl, inr, arith, lit<, refl, sym, ap, ◌∙◌, subst}
+use Rattle.std.proofs.Common.{◌≡◌, ℕ, ◌==◌, ◌&&◌, ◌||◌, Bool, true, false, not, List, None, Result, Ok, Err, ◌⊎◌, inl, inr, arith, lit<, refl, sym, ap, ◌∙◌, subst}
 use Rattle.std.proofs.lemmas.Bool.Decides.{nat_tests}
 use Rattle.std.specs.Prelude.{◌<◌, nat_lt, nat_le, if◌then◌else◌}
 use Rattle.rt_exprs.specs.declared.fault.CheckFault.{CheckFault}

@@ -5,7 +5,7 @@ use Rattle.rt_syntax_exprs.specs.declared.tree.Expr.{Expr}
 use Rattle.rt_tree_nodes.specs.declared.value.Value.{Value}
 use Rattle.rt_exprs.specs.declared.fault.CheckFault.{CheckFault}
 use Rattle.rt_exprs.specs.declared.fault.CheckFault.TheVariants.{Memory, UnknownName, WrongMode, NotAssignable, WrongCount, RefOfLocal, LeftOut, DeclaredTwice, BadStart, UnknownLabel, NoResult, Unknown}
-use Rattle.rt_exprs.specs.declared.scope.Scope.{Scope}
+use Rattle.rt_exprs.specs.Sights.{Sight}
 use Rattle.rt_exprs.specs.Modes.{Want}
 use Rattle.rt_exprs.specs.Outcomes.{Outcome, Gives, is_before, is_unknown}
 use Rattle.rt_exprs.specs.Operands.{fits}
@@ -101,7 +101,7 @@ bad_is H F g (bad m h) n = h
 pub tells_err : {A : Type 0} (T : Option A → Type 0) (F : CheckFault → Type 0) (t : Outcome A) (g : CheckFault) → Tells T F t → is_unknown g ≡ false → t ≡ Err g → F g
 tells_err T F t g h n e = bad_is (T None) F g (subst (Tells T F) e h) n
 
-module _ (s : Scope) (e : Expr) (w : Want) where
+module _ (s : Sight) (e : Expr) (w : Want) where
   fit_tells : SoundFit s e w (fits (judged s e) w)
   fit_tells = sound_fit s e w (judged s e) (expr_sound s e)
 

@@ -9,10 +9,10 @@ use Rattle.rt_tree_nodes.specs.declared.value.Value.{Value}
 use Rattle.rt_tree_nodes.specs.declared.value.Place.{Place}
 use Rattle.rt_tree_nodes.specs.declared.value.Place.TheVariants as places
 use Rattle.rt_exprs.specs.declared.operand.Standing.{Standing}
-use Rattle.rt_exprs.specs.declared.scope.Scope.{Scope}
-use Rattle.rt_exprs.specs.Modes.{Want, want}
+use Rattle.rt_exprs.specs.Sights.{Sight}
+use Rattle.rt_exprs.specs.Modes.{Want}
 use Rattle.rt_exprs.specs.Outcomes.{Outcome, unknown}
-use Rattle.rt_exprs.specs.Operands.{Found, Judged, place, suits, suits_as, if_known, first_field, field_of, is_label, unless_label, if_known_mode}
+use Rattle.rt_exprs.specs.Operands.{Found, Judged, place, if_known, first_field, field_of, is_label, unless_label, if_known_mode}
 use Rattle.rt_exprs.specs.Judging.{found, seen_as, field_with}
 use Rattle.rt_exprs.specs.Fitting as f
 use Rattle.rt_exprs.specs.Fitting.{IsBy, ChainIs, Leads, Follows, FitsBy, FitEach, Shows, ShowsChain, ShowsLinks, ShowsLink, Takes, TakeEach, known, told, pair_of, pushed, or_any}
@@ -38,7 +38,7 @@ field_known : (records : List RecordDef) (r : ℕ) (name : List ℕ) (k : ℕ) (
 field_known records r name k m e n = rw (e, n) refl
 
 mutual
-  pub shows_known : {s : Scope} {e : Expr} {y : Found} → IsBy s e y → Shows s e (Some (known y))
+  pub shows_known : {s : Sight} {e : Expr} {y : Found} → IsBy s e y → Shows s e (Some (known y))
   shows_known (f.is_number o) = f.shows_number o
   shows_known (f.is_text o i h) = f.shows_text o i h
   shows_known (f.is_chain o h) = f.shows_chain o (chain_known h)
@@ -48,22 +48,22 @@ mutual
   shows_known (f.is_of_int o i h k) = f.shows_of_int o i (takes_known h) (takes_known k)
   shows_known (f.is_by_left {x = x} o i h e k) = f.shows_by_left (Some x) o i (shows_known h) e (takes_known k)
 
-  pub chain_known : {s : Scope} {c : Chain} {y : Found} → ChainIs s c y → ShowsChain s c (Some (known y))
+  pub chain_known : {s : Sight} {c : Chain} {y : Found} → ChainIs s c y → ShowsChain s c (Some (known y))
   chain_known (f.led n h) = f.shows_named n (links_known h)
 
-  links_known : {s : Scope} {x y : Found} {ls : List Link} → Leads s x ls y → ShowsLinks s (Some (known x)) ls (Some (known y))
+  links_known : {s : Sight} {x y : Found} {ls : List Link} → Leads s x ls y → ShowsLinks s (Some (known x)) ls (Some (known y))
   links_known f.here = f.shows_here
   links_known (f.onward h hs) = f.shows_onward (link_known h) (links_known hs)
 
-  link_known : {s : Scope} {l : Link} {x y : Found} → Follows s l x y → ShowsLink s l (Some (known x)) (Some (known y))
-  link_known {s = s} (f.to_field {n = n} {r = r} {k = k} {m = m} o is field) = let b = known_field s.modes.now.records r n.name k m field in f.shows_field o is b.first (rw b.no_label refl)
+  link_known : {s : Sight} {l : Link} {x y : Found} → Follows s l x y → ShowsLink s l (Some (known x)) (Some (known y))
+  link_known {s = s} (f.to_field {n = n} {r = r} {k = k} {m = m} o is field) = let b = known_field s.records r n.name k m field in f.shows_field o is b.first (rw b.no_label refl)
   link_known (f.to_element o r i) = f.shows_element o r (takes_known i)
   link_known (f.to_call o r h n) = f.shows_call o r (each_known h) n
 
-  pub takes_known : {s : Scope} {e : Expr} {w : Want} {x : Value} → FitsBy s e w x → Takes s e w (Some x)
+  pub takes_known : {s : Sight} {e : Expr} {w : Want} {x : Value} → FitsBy s e w x → Takes s e w (Some x)
   takes_known (f.fits_by h e) = f.is_taken (shows_known h) e
 
-  each_known : {s : Scope} {es : List Expr} {ms : List Mode} {xs : List Value} → FitEach s es ms xs → TakeEach s es ms (Some xs)
+  each_known : {s : Sight} {es : List Expr} {ms : List Mode} {xs : List Value} → FitEach s es ms xs → TakeEach s es ms (Some xs)
   each_known f.no_argument = f.none_taken
   each_known (f.no_parameter {es = []}) = f.none_taken
   each_known (f.no_parameter {es = e ∷ es}) = f.no_more_taken
@@ -103,7 +103,7 @@ field_stays true j i p st k m o w e = absurd (let bad : unknown {A = Judged} ≡
 field_stays false j i p st k m o w e = (refl, let same : Ok (seen_as j.known j.found.at (place (places.Field p k) m st)) ≡ Ok i = w ∙ ap (λ (q : Option Judged). told q) e in cc)
 
 mutual
-  pub is_by : {s : Scope} {e : Expr} {o : Option Judged} (y : Found) → Shows s e o → o ≡ Some (known y) → IsBy s e y
+  pub is_by : {s : Sight} {e : Expr} {o : Option Judged} (y : Found) → Shows s e o → o ≡ Some (known y) → IsBy s e y
   is_by {s = s} {e = d} y (f.shows_number {n = n} {at = at} o) e = subst (IsBy s d) (found_same _ y e) (f.is_number o)
   is_by {s = s} {e = d} y (f.shows_text o i h) e = subst (IsBy s d) (found_same _ y e) (f.is_text o i h)
   is_by y (f.shows_chain o h) e = f.is_chain o (chain_is y h e)
@@ -122,15 +122,15 @@ mutual
   is_by {s = s} {e = d} y (f.shows_by_left {j = j} (Some a) {y = Some b} o i h x k) e = let q = suits_known j.known _ a x in subst (IsBy s d) (found_same _ y e) (f.is_by_left o i (is_by j.found h (all_known j q.0)) q.1 (fits_known b k refl))
   is_by y (f.hides_by_left o i h k) e = absurd (never y e)
 
-  pub chain_is : {s : Scope} {c : Chain} {o : Option Judged} (y : Found) → ShowsChain s c o → o ≡ Some (known y) → ChainIs s c y
+  pub chain_is : {s : Sight} {c : Chain} {o : Option Judged} (y : Found) → ShowsChain s c o → o ≡ Some (known y) → ChainIs s c y
   chain_is {c = c} y (f.shows_named {is = is} n h) e = f.led n (leads_known (f.begins c is) y h refl e)
   chain_is y (f.hides_named n h) e = absurd (none_leads y h refl e)
 
-  none_leads : {s : Scope} {o p : Option Judged} {ls : List Link} (y : Found) → ShowsLinks s o ls p → o ≡ None → p ≡ Some (known y) → ⊥
+  none_leads : {s : Sight} {o p : Option Judged} {ls : List Link} (y : Found) → ShowsLinks s o ls p → o ≡ None → p ≡ Some (known y) → ⊥
   none_leads y f.shows_here e d = never y (sym e ∙ d)
   none_leads y (f.shows_onward h hs) e d = none_leads y hs (none_on h e) d
 
-  none_on : {s : Scope} {l : Link} {o p : Option Judged} → ShowsLink s l o p → o ≡ None → p ≡ None
+  none_on : {s : Sight} {l : Link} {o p : Option Judged} → ShowsLink s l o p → o ≡ None → p ≡ None
   none_on (f.shows_field {j = j} o is field w) e = absurd (let bad : Some j ≡ None = e in cc)
   none_on (f.shows_element {j = j} o r i) e = absurd (let bad : Some j ≡ None = e in cc)
   none_on (f.shows_call {j = j} o r h n) e = absurd (let bad : Some j ≡ None = e in cc)
@@ -138,12 +138,12 @@ mutual
   none_on (f.hides_apply o h) e = refl
 
   -- what is known behind some links was known before them
-  leads_to_known : {s : Scope} {o p : Option Judged} {ls : List Link} (j : Judged) (y : Found) → ShowsLinks s o ls p → o ≡ Some j → p ≡ Some (known y) → j.known ≡ true
+  leads_to_known : {s : Sight} {o p : Option Judged} {ls : List Link} (j : Judged) (y : Found) → ShowsLinks s o ls p → o ≡ Some j → p ≡ Some (known y) → j.known ≡ true
   leads_to_known j y f.shows_here e d = known_same j y (sym e ∙ d)
   leads_to_known j y (f.shows_onward {p = None} h hs) e d = absurd (none_leads y hs refl d)
   leads_to_known j y (f.shows_onward {p = Some k} h hs) e d = stays_known j k h e refl (leads_to_known k y hs refl d)
 
-  stays_known : {s : Scope} {l : Link} {o p : Option Judged} (j k : Judged) → ShowsLink s l o p → o ≡ Some j → p ≡ Some k → k.known ≡ true → j.known ≡ true
+  stays_known : {s : Sight} {l : Link} {o p : Option Judged} (j k : Judged) → ShowsLink s l o p → o ≡ Some j → p ≡ Some k → k.known ≡ true → j.known ≡ true
   stays_known j k (f.shows_field {j = i} {p = p} {k = n} {st = st} {m = m} {o = q} o is field w) e d n' =
       let same : i ≡ j = same_judged i j e in let c = field_stays (is_label (out-Mode m)) i k p st n m q w d in ap (λ (x : Judged). x.known) (sym same) ∙ ap (λ (x : Judged). x.known) c.1 ∙ n'
   stays_known j k (f.shows_element {j = i} {i = x} o r h) e d n =
@@ -153,15 +153,15 @@ mutual
   stays_known j k (f.hides_field o) e d n = absurd (let bad : none_of {A = Judged} ≡ Some j = e in cc)
   stays_known j k (f.hides_apply o h) e d n = absurd (let bad : none_of {A = Judged} ≡ Some j = e in cc)
 
-  leads_known : {s : Scope} {o p : Option Judged} {ls : List Link} (x y : Found) → ShowsLinks s o ls p → o ≡ Some (known x) → p ≡ Some (known y) → Leads s x ls y
+  leads_known : {s : Sight} {o p : Option Judged} {ls : List Link} (x y : Found) → ShowsLinks s o ls p → o ≡ Some (known x) → p ≡ Some (known y) → Leads s x ls y
   leads_known {s = s} x y f.shows_here e d = let same : known x ≡ known y = same_judged (known x) (known y) (sym e ∙ d) in subst (Leads s x []) (ap (λ (j : Judged). j.found) same) f.here
   leads_known x y (f.shows_onward {p = None} h hs) e d = absurd (none_leads y hs refl d)
   leads_known x y (f.shows_onward {p = Some j} h hs) e d = let k = leads_to_known j y hs refl d in f.onward (follows_known x j.found h e (all_known j k)) (leads_known j.found y hs (all_known j k) d)
 
-  follows_known : {s : Scope} {l : Link} {o p : Option Judged} (x y : Found) → ShowsLink s l o p → o ≡ Some (known x) → p ≡ Some (known y) → Follows s l x y
+  follows_known : {s : Sight} {l : Link} {o p : Option Judged} (x y : Found) → ShowsLink s l o p → o ≡ Some (known x) → p ≡ Some (known y) → Follows s l x y
   follows_known {s = s} {l = l} x y (f.shows_field {n = name} {j = i} {p = p} {r = r} {k = n} {st = st} {m = m} {o = q} o is field w) e d =
       let c = field_stays (is_label (out-Mode m)) i (known y) p st n m q w d in
-      let step : Follows s l i.found (found i.found.at (place (places.Field p n) m st)) = f.to_field o is (field_known s.modes.now.records r name.name n m field c.0) in
+      let step : Follows s l i.found (found i.found.at (place (places.Field p n) m st)) = f.to_field o is (field_known s.records r name.name n m field c.0) in
       subst (λ (z : Found). Follows s l z y) (found_same i x e) (subst (Follows s l i.found) (ap (λ (j : Judged). j.found) c.1) step)
   follows_known x y (f.shows_element {i = None} o r h) e d = absurd (let bad : false ≡ true = known_same _ y d in cc)
   follows_known {s = s} {l = l} x y (f.shows_element {j = i} {i = Some v} o r h) e d = subst (λ (z : Found). Follows s l z y) (found_same i x e) (subst (Follows s l i.found) (found_same _ y d) (f.to_element o r (fits_known v h refl)))
@@ -170,11 +170,11 @@ mutual
   follows_known x y (f.hides_field o) e d = absurd (never x e)
   follows_known x y (f.hides_apply o h) e d = absurd (never x e)
 
-  pub fits_known : {s : Scope} {e : Expr} {w : Want} {o : Option Value} (x : Value) → Takes s e w o → o ≡ Some x → FitsBy s e w x
+  pub fits_known : {s : Sight} {e : Expr} {w : Want} {o : Option Value} (x : Value) → Takes s e w o → o ≡ Some x → FitsBy s e w x
   fits_known x (f.is_taken {j = j} h is) e = let k = suits_known j.known _ x (is ∙ ap (λ (q : Option Value). told q) e) in f.fits_by (is_by j.found h (all_known j k.0)) k.1
   fits_known x (f.taken_hidden h) e = absurd (let bad : none_of {A = Value} ≡ Some x = e in cc)
 
-  each_is : {s : Scope} {es : List Expr} {ms : List Mode} {o : Option (List Value)} (xs : List Value) → TakeEach s es ms o → o ≡ Some xs → FitEach s es ms xs
+  each_is : {s : Sight} {es : List Expr} {ms : List Mode} {o : Option (List Value)} (xs : List Value) → TakeEach s es ms o → o ≡ Some xs → FitEach s es ms xs
   each_is {s = s} xs (f.none_taken {ms = ms}) e = let same : [] ≡ xs = cc in subst (FitEach s [] ms) same f.no_argument
   each_is {s = s} xs (f.no_more_taken {e = d} {es = es}) e = let same : [] ≡ xs = cc in subst (FitEach s (d ∷ es) []) same f.no_parameter
   each_is xs (f.one_taken {x = None} h hs) e = absurd (let bad : none_of {A = List Value} ≡ Some xs = e in cc)

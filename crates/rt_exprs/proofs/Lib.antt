@@ -12,3 +12,4 @@ pub mod Joins
 pub mod Counting
 pub mod Following
 mod Indexing
+mod Kept

@@ -1,5 +1,5 @@
 -- The same of places that are assigned, of calls that stand alone, and of conditions.
-use Rattle.std.proofs.Common.{◌≡◌, ℕ, Bool, true, false, List, [], ◌∷◌, ◌++◌, Option, Some, None, Result, Ok, Err, ◌⊎◌, inl, inr, map, refl, sym, ap, ◌∙◌, subst, append_assoc}
+use Rattle.std.proofs.Common.{◌≡◌, Bool, true, false, List, [], ◌∷◌, ◌++◌, Option, Some, None, Result, Ok, Err, inl, inr, map, refl, sym, ap, ◌∙◌, subst, append_assoc}
 use Rattle.std.proofs.lemmas.List.{append-nil}
 use Rattle.std.specs.Prelude.{if◌then◌else◌, IfOk, IfErr}
 use Rattle.rt_grammar.specs.declared.at.At.{At}
@@ -18,7 +18,7 @@ use Rattle.rt_tree_nodes.specs.declared.value.Value.{Value}
 use Rattle.rt_exprs.specs.declared.fault.CheckFault.{CheckFault}
 use Rattle.rt_exprs.specs.declared.fault.CheckFault.TheVariants as fault
 use Rattle.rt_exprs.specs.declared.operand.Standing.TheVariants as standing
-use Rattle.rt_exprs.specs.declared.scope.Scope.{Scope}
+use Rattle.rt_exprs.specs.Sights.{Sight}
 use Rattle.rt_exprs.specs.Modes.{Want}
 use Rattle.rt_exprs.specs.Outcomes.{Outcome, ◌>>=◌, Gives, both, after, earlier, is_unknown, Settles, IsAnswered, IsAnsweredAs}
 use Rattle.rt_exprs.specs.Operands.{Is, Judged, place, loop, brick, result, done, suits, suits_as, if_known, fits, by_itself}
@@ -90,7 +90,7 @@ shown_known j e = ap (λ (i : Judged). Some i) (all_known j e)
 
 -- ---- targets
 
-module _ (s : Scope) (c : Chain) where
+module _ (s : Sight) (c : Chain) where
   abbrev pub SoundTarget : Outcome (Option Place × Mode) → Type 0
   SoundTarget (Ok x) = AssignsAs s c x
   SoundTarget (Err g) = is_unknown g ≡ false → NotAssigned s c g
@@ -138,7 +138,7 @@ module _ (s : Scope) (c : Chain) where
 
 -- ---- VAL
 
-module _ (s : Scope) (at : At) (c : Chain) where
+module _ (s : Sight) (at : At) (c : Chain) where
   abbrev pub SoundVal : Outcome (Option Place × Mode) → Type 0
   SoundVal (Ok x) = AssignsValAs s at c x
   SoundVal (Err g) = is_unknown g ≡ false → NotAssignedVal s at c g
@@ -186,7 +186,7 @@ module _ (s : Scope) (at : At) (c : Chain) where
 
 -- ---- calls
 
-module _ (s : Scope) (c : Chain) where
+module _ (s : Sight) (c : Chain) where
   abbrev pub SoundCall : Outcome Value → Type 0
   SoundCall (Ok x) = CallIs s c x
   SoundCall (Err g) = is_unknown g ≡ false → NoCall s c g
@@ -250,10 +250,10 @@ module _ (s : Scope) (c : Chain) where
 
 -- ---- conditions
 
-compared_stops_left : (s : Scope) (r : Rel) (j : Judged) (b : Expr) (w : Want) (g : CheckFault) → suits j.found w ≡ Err g → Stops (compare_by r j (judged s b) (Some w)) g
+compared_stops_left : (s : Sight) (r : Rel) (j : Judged) (b : Expr) (w : Want) (g : CheckFault) → suits j.found w ≡ Err g → Stops (compare_by r j (judged s b) (Some w)) g
 compared_stops_left s r j b w g x = stops_then (both (suits_as j w) (fits (judged s b) w)) _ g (stops_both_left (suits_as j w) (fits (judged s b) w) g (exactly _ _ (suits_real j.found w g x) (wrong_as j w g x)))
 
-compared_stops_right : (s : Scope) (r : Rel) (j : Judged) (b : Expr) (w : Want) (g : CheckFault) → Stops (fits (judged s b) w) g → Stops (compare_by r j (judged s b) (Some w)) g
+compared_stops_right : (s : Sight) (r : Rel) (j : Judged) (b : Expr) (w : Want) (g : CheckFault) → Stops (fits (judged s b) w) g → Stops (compare_by r j (judged s b) (Some w)) g
 compared_stops_right s r j b w g h = stops_then (both (suits_as j w) (fits (judged s b) w)) _ g (stops_both_right (suits_as j w) (fits (judged s b) w) g h)
 
 all_stop : (so_far : Outcome (List Test)) (ts : List (Outcome Test)) (g : CheckFault) → Stops so_far g → Stops (all_from so_far ts) g
@@ -267,18 +267,18 @@ compare_alone : (r : Rel) (t u : Outcome Judged) (g : CheckFault) → Fails t �
 compare_alone r t u g h k = stops_sooner_right (compare r t u) h.first (by_itself u) g (rw h.is refl) k.counts k.real
 
 mutual
-  pub test_judged : {s : Scope} {c : Cond} {t : Test} → TestIs s c t → tested s c ≡ Ok t
+  pub test_judged : {s : Sight} {c : Cond} {t : Test} → TestIs s c t → tested s c ≡ Ok t
   test_judged {s = s} {c = c} (f.is_or {cs = cs} {at = at} o h) = opened_or s c cs at o ∙ rw (tests_judged [] h) refl
   test_judged {s = s} {c = c} (f.is_and {cs = cs} {at = at} o h) = opened_and s c cs at o ∙ rw (tests_judged [] h) refl
   test_judged {s = s} {c = c} (f.is_comparison {r = r} {a = a} {b = b} {at = at} o h w x y) = opened_compare s c r a b at o ∙ rw (is_judged (shows_known h), w, x, takes_judged (takes_known y)) refl
 
-  tests_judged : {s : Scope} {cs : List Cond} {ts : List Test} (so_far : List Test) → TestsAre s cs ts → all_from (Ok so_far) (map (tested s) cs) ≡ Ok (so_far ++ ts)
+  tests_judged : {s : Sight} {cs : List Cond} {ts : List Test} (so_far : List Test) → TestsAre s cs ts → all_from (Ok so_far) (map (tested s) cs) ≡ Ok (so_far ++ ts)
   tests_judged so_far f.no_test = ap (λ (x : List Test). Ok x) (sym (append-nil so_far))
   tests_judged {s = s} so_far (f.one_test {cs = cs} {t = t} {ts = ts} h hs) =
       ap (λ (o : Outcome Test). all_from (after (Ok so_far) o) (map (tested s) cs)) (test_judged h) ∙ tests_judged (so_far ++ t ∷ []) hs ∙ ap (λ (y : List Test). Ok y) (append_assoc so_far (t ∷ []) ts)
 
 mutual
-  pub test_stops : {s : Scope} {c : Cond} {g : CheckFault} → FaultInTest s c g → Stops (tested s c) g
+  pub test_stops : {s : Sight} {c : Cond} {g : CheckFault} → FaultInTest s c g → Stops (tested s c) g
   test_stops {s = s} {c = c} {g = g} (f.in_or {cs = cs} {at = at} o h) = moved (tested s c) (all_from (Ok []) (map (tested s) cs) >>= λ ts. Ok (tests.Or ts)) g (opened_or s c cs at o) (stops_then (all_from (Ok []) (map (tested s) cs)) _ g (tests_stop (Ok []) h))
   test_stops {s = s} {c = c} {g = g} (f.in_and {cs = cs} {at = at} o h) = moved (tested s c) (all_from (Ok []) (map (tested s) cs) >>= λ ts. Ok (tests.And ts)) g (opened_and s c cs at o) (stops_then (all_from (Ok []) (map (tested s) cs)) _ g (tests_stop (Ok []) h))
   test_stops {s = s} {c = c} {g = g} (f.in_left_side {r = r} {a = a} {b = b} {at = at} o h) = moved (tested s c) (compare r (judged s a) (judged s b)) g (opened_compare s c r a b at o) (compare_stops r (judged s a) (judged s b) g (fault_stops h))
@@ -292,19 +292,19 @@ mutual
   test_stops {s = s} {c = c} {g = g} (f.unfit_unwanted {r = r} {a = a} {b = b} {at = at} {j = j} o h w u) =
       let k = alone_reaches u in stops_sooner_right (tested s c) (fault.WrongMode j.found.at) (by_itself (judged s b)) g (opened_compare s c r a b at o ∙ rw (is_judged h, w) refl) k.counts k.real
 
-  tests_stop : {s : Scope} {cs : List Cond} {g : CheckFault} (so_far : Outcome (List Test)) → FaultAmong s cs g → Stops (all_from so_far (map (tested s) cs)) g
+  tests_stop : {s : Sight} {cs : List Cond} {g : CheckFault} (so_far : Outcome (List Test)) → FaultAmong s cs g → Stops (all_from so_far (map (tested s) cs)) g
   tests_stop {s = s} {g = g} so_far (f.first_test {c = c} {cs = cs} h) = all_stop (after so_far (tested s c)) (map (tested s) cs) g (stops_after_right so_far (tested s c) g (test_stops h))
   tests_stop {s = s} so_far (f.later_test {c = c} h) = tests_stop (after so_far (tested s c)) h
 
 -- a test, or nothing where it can't be known
-abbrev pub TestOr : Scope → Cond → Option Test → Type 0
+abbrev pub TestOr : Sight → Cond → Option Test → Type 0
 TestOr s c None = Unit {0}
 TestOr s c (Some t) = TestIs s c t
 
-abbrev pub Tested : Scope → Cond → Type 0
+abbrev pub Tested : Sight → Cond → Type 0
 Tested s c = Tells (TestOr s c) (FaultInTest s c) (tested s c)
 
-module _ (s : Scope) (c : Cond) (r : Rel) (a b : Expr) (at : At) (o : out-Cond c ≡ Cond-F.Compare r a b at) where
+module _ (s : Sight) (c : Cond) (r : Rel) (a b : Expr) (at : At) (o : out-Cond c ≡ Cond-F.Compare r a b at) where
   abbrev TestTells : Outcome Test → Type 0
   TestTells t = Tells (TestOr s c) (FaultInTest s c) t
 
@@ -330,15 +330,15 @@ module _ (s : Scope) (c : Cond) (r : Rel) (a b : Expr) (at : At) (o : out-Cond c
   compare_sound (Err g) (bad n h) = joined {H = ⊥} (λ h k. tt) (λ r x. x) (λ r y. f.unfit_by_itself o (f.unfit h) y) g (by_itself (judged s b)) (bad n (f.in_left_side o h)) (sound_alone s b (judged s b) (expr_sound s b))
 
 -- tests behind those before them, or nothing where one can't be known
-abbrev TestsOr : Scope → List Cond → List Test → Option (List Test) → Type 0
+abbrev TestsOr : Sight → List Cond → List Test → Option (List Test) → Type 0
 TestsOr s cs so_far None = Unit {0}
 TestsOr s cs so_far (Some whole) = (ts : List Test) × TestsAre s cs ts × (whole ≡ so_far ++ ts)
 
-more_tests : (s : Scope) (c : Cond) (cs : List Cond) (t : Test) (so_far : List Test) → TestIs s c t → (r : Option (List Test)) → TestsOr s cs (so_far ++ t ∷ []) r → TestsOr s (c ∷ cs) so_far r
+more_tests : (s : Sight) (c : Cond) (cs : List Cond) (t : Test) (so_far : List Test) → TestIs s c t → (r : Option (List Test)) → TestsOr s cs (so_far ++ t ∷ []) r → TestsOr s (c ∷ cs) so_far r
 more_tests s c cs t so_far h None k = tt
 more_tests s c cs t so_far h (Some whole) (ts, k, is) = (t ∷ ts, f.one_test h k, is ∙ append_assoc so_far (t ∷ []) ts)
 
-earlier_bad : (H : Type 0) (F : CheckFault → Type 0) (s : Scope) (c : Cond) (g : CheckFault) → Bad H F g → (t : Outcome Test) → Tells (TestOr s c) (FaultInTest s c) t → Bad (Unit {0}) (Either F (FaultInTest s c)) (earlier g t)
+earlier_bad : (H : Type 0) (F : CheckFault → Type 0) (s : Sight) (c : Cond) (g : CheckFault) → Bad H F g → (t : Outcome Test) → Tells (TestOr s c) (FaultInTest s c) t → Bad (Unit {0}) (Either F (FaultInTest s c)) (earlier g t)
 earlier_bad H F s c _ (hid h) (Ok t) k = hid tt
 earlier_bad H F s c g (bad n h) (Ok t) k = bad n (inl h)
 earlier_bad H F s c g h (Err q) k = joined (λ h k. tt) (λ r x. inl x) (λ r y. inr y) g q h k
@@ -347,7 +347,7 @@ abbrev Never : Option (List Test) → Type 0
 Never o = o ≡ None
 
 -- behind a fault, or what can't be known, no tests are answered
-after_bad : (s : Scope) (cs : List Cond) → EachIs (Tested s) cs → (H : Type 0) (F : CheckFault → Type 0) (g : CheckFault) → Bad H F g → Tells Never (Either F (FaultAmong s cs)) (all_from (Err g) (map (tested s) cs))
+after_bad : (s : Sight) (cs : List Cond) → EachIs (Tested s) cs → (H : Type 0) (F : CheckFault → Type 0) (g : CheckFault) → Bad H F g → Tells Never (Either F (FaultAmong s cs)) (all_from (Err g) (map (tested s) cs))
 after_bad s [] hs H F _ (hid h) = hid refl
 after_bad s [] hs H F g (bad n h) = bad n (inl h)
 after_bad s (c ∷ cs) (k, hs) H F g h =
@@ -358,13 +358,13 @@ after_bad s (c ∷ cs) (k, hs) H F g h =
       stands q (inl (inr x)) = inr (f.first_test x)
       stands q (inr x) = inr (f.later_test x)
 
-abbrev FromTests : Scope → List Cond → Type 0
+abbrev FromTests : Sight → List Cond → Type 0
 FromTests s cs = (so_far : List Test) → Tells (TestsOr s cs so_far) (FaultAmong s cs) (all_from (Ok so_far) (map (tested s) cs))
 
-nowhere : (s : Scope) (cs : List Cond) (so_far : List Test) (o : Option (List Test)) → Never o → TestsOr s cs so_far o
+nowhere : (s : Sight) (cs : List Cond) (so_far : List Test) (o : Option (List Test)) → Never o → TestsOr s cs so_far o
 nowhere s cs so_far o e = subst (TestsOr s cs so_far) (sym e) tt
 
-one_more : (s : Scope) (c : Cond) (cs : List Cond) (so_far : List Test) → FromTests s cs → EachIs (Tested s) cs → (t : Outcome Test) → Tells (TestOr s c) (FaultInTest s c) t
+one_more : (s : Sight) (c : Cond) (cs : List Cond) (so_far : List Test) → FromTests s cs → EachIs (Tested s) cs → (t : Outcome Test) → Tells (TestOr s c) (FaultInTest s c) t
     → Tells (TestsOr s (c ∷ cs) so_far) (FaultAmong s (c ∷ cs)) (all_from (after (Ok so_far) t) (map (tested s) cs))
 one_more s c cs so_far rest hs (Ok t) h =
     told_more (TestsOr s cs (so_far ++ t ∷ [])) (TestsOr s (c ∷ cs) so_far) (FaultAmong s cs) (FaultAmong s (c ∷ cs)) (more_tests s c cs t so_far h) (λ g k. f.later_test k) (all_from (Ok (so_far ++ t ∷ [])) (map (tested s) cs)) (rest (so_far ++ t ∷ []))
@@ -375,28 +375,28 @@ one_more s c cs so_far rest hs (Err g) (bad n h) =
     told_more Never (TestsOr s (c ∷ cs) so_far) (Either (λ q. FaultInTest s c q) (FaultAmong s cs)) (FaultAmong s (c ∷ cs)) (nowhere s (c ∷ cs) so_far) (λ q k. elim k [ inl x ↦ f.first_test x | inr x ↦ f.later_test x ]) (all_from (Err g) (map (tested s) cs))
     (after_bad s cs hs ⊥ (λ q. FaultInTest s c q) g (bad n h))
 
-from_tests : (s : Scope) (cs : List Cond) → EachIs (Tested s) cs → FromTests s cs
+from_tests : (s : Sight) (cs : List Cond) → EachIs (Tested s) cs → FromTests s cs
 from_tests s [] hs so_far = ([], f.no_test, sym (append-nil so_far))
 from_tests s (c ∷ cs) (k, hs) so_far = one_more s c cs so_far (from_tests s cs hs) hs (tested s c) k
 
-or_sound : (s : Scope) (c : Cond) (cs : List Cond) (at : At) → out-Cond c ≡ Cond-F.Or cs at → (whole : Outcome (List Test)) → Tells (TestsOr s cs []) (FaultAmong s cs) whole → Tells (TestOr s c) (FaultInTest s c) (whole >>= λ ts. Ok (tests.Or ts))
+or_sound : (s : Sight) (c : Cond) (cs : List Cond) (at : At) → out-Cond c ≡ Cond-F.Or cs at → (whole : Outcome (List Test)) → Tells (TestsOr s cs []) (FaultAmong s cs) whole → Tells (TestOr s c) (FaultInTest s c) (whole >>= λ ts. Ok (tests.Or ts))
 or_sound s c cs at o (Ok whole) (ts, h, is) = f.is_or o (subst (λ (q : List Test). TestsAre s cs q) (sym is) h)
 or_sound s c cs at o (Err _) (hid h) = hid tt
 or_sound s c cs at o (Err g) (bad n h) = bad n (f.in_or o h)
 
-and_sound : (s : Scope) (c : Cond) (cs : List Cond) (at : At) → out-Cond c ≡ Cond-F.And cs at → (whole : Outcome (List Test)) → Tells (TestsOr s cs []) (FaultAmong s cs) whole → Tells (TestOr s c) (FaultInTest s c) (whole >>= λ ts. Ok (tests.And ts))
+and_sound : (s : Sight) (c : Cond) (cs : List Cond) (at : At) → out-Cond c ≡ Cond-F.And cs at → (whole : Outcome (List Test)) → Tells (TestsOr s cs []) (FaultAmong s cs) whole → Tells (TestOr s c) (FaultInTest s c) (whole >>= λ ts. Ok (tests.And ts))
 and_sound s c cs at o (Ok whole) (ts, h, is) = f.is_and o (subst (λ (q : List Test). TestsAre s cs q) (sym is) h)
 and_sound s c cs at o (Err _) (hid h) = hid tt
 and_sound s c cs at o (Err g) (bad n h) = bad n (f.in_and o h)
 
-abbrev CondPair : Scope → Type 0
+abbrev CondPair : Sight → Type 0
 CondPair s = (c : Cond) × Tested s c
 
-each_cond : (s : Scope) (cs : List (CondPair s)) → EachIs (Tested s) (map (λ e. e.0) cs)
+each_cond : (s : Sight) (cs : List (CondPair s)) → EachIs (Tested s) (map (λ e. e.0) cs)
 each_cond s [] = tt
 each_cond s (c ∷ cs) = (c.1, each_cond s cs)
 
-opened : (s : Scope) (c : Cond) (y : Cond-F (CondPair s)) → out-Cond c ≡ map-Cond (CondPair s) Cond (λ e. e.0) y → Tested s c
+opened : (s : Sight) (c : Cond) (y : Cond-F (CondPair s)) → out-Cond c ≡ map-Cond (CondPair s) Cond (λ e. e.0) y → Tested s c
 opened s c (Cond-F.Or cs at) o = rw (opened_or s c (map (λ e. e.0) cs) at o) (or_sound s c (map (λ e. e.0) cs) at o (all_from (Ok []) (map (tested s) (map (λ e. e.0) cs))) (from_tests s (map (λ e. e.0) cs) (each_cond s cs) []))
 opened s c (Cond-F.And cs at) o = rw (opened_and s c (map (λ e. e.0) cs) at o) (and_sound s c (map (λ e. e.0) cs) at o (all_from (Ok []) (map (tested s) (map (λ e. e.0) cs))) (from_tests s (map (λ e. e.0) cs) (each_cond s cs) []))
 opened s c (Cond-F.Compare r a b at) o = rw (opened_compare s c r a b at o) (compare_sound s c r a b at o (judged s a) (expr_sound s a))
@@ -404,10 +404,10 @@ opened s c (Cond-F.Compare r a b at) o = rw (opened_compare s c r a b at o) (com
 rolled : (x : Cond-F Cond) → out-Cond (roll-Cond x) ≡ x
 rolled x = search conditions.the_lemmas
 
-pub cond_sound : (s : Scope) (c : Cond) → Tested s c
+pub cond_sound : (s : Sight) (c : Cond) → Tested s c
 cond_sound s = ind-Cond (Tested s) (λ x y is. opened s (roll-Cond x) y (rolled x ∙ sym is))
 
-module _ (s : Scope) (c : Cond) where
+module _ (s : Sight) (c : Cond) where
   pub test_holds : (t : Test) → tested s c ≡ Ok t → TestIs s c t
   test_holds t is = tells_ok (TestOr s c) (FaultInTest s c) (tested s c) t (cond_sound s c) is
 

@@ -1,5 +1,5 @@
 -- What is wrong with a name or a value is a fault, and not what can't be known.
-use Rattle.std.proofs.Common.{◌≡◌, Bool, true, false, Option, Some, None, Ok, Err, refl}
+use Rattle.std.proofs.Common.{◌≡◌, Bool, true, false, Option, Some, None, Err, refl}
 use Rattle.std.specs.Prelude.{if◌then◌else◌}
 use Rattle.rt_grammar.specs.declared.at.At.{At}
 use Rattle.rt_modes.specs.declared.mode.Mode.{Mode}
@@ -10,9 +10,9 @@ use Rattle.rt_exprs.specs.declared.fault.CheckFault.{CheckFault}
 use Rattle.rt_exprs.specs.declared.fault.CheckFault.TheVariants as fault
 use Rattle.rt_exprs.specs.declared.operand.Standing.{Standing}
 use Rattle.rt_exprs.specs.declared.operand.Standing.TheVariants as standing
-use Rattle.rt_exprs.specs.Modes.{Want, becomes, basic_becomes, only_if, is_row, is_ref, is_proc, is_byte, is_int, same}
-use Rattle.rt_exprs.specs.Outcomes.{Outcome, is_unknown, or_fault}
-use Rattle.rt_exprs.specs.Operands.{Is, number, text, brick, place, loop, result, computed, done, Found, suits, suits_by, place_suits, loop_suits, refer, wants_reference}
+use Rattle.rt_exprs.specs.Modes.{Want, becomes}
+use Rattle.rt_exprs.specs.Outcomes.{is_unknown, or_fault}
+use Rattle.rt_exprs.specs.Operands.{Is, number, text, brick, place, loop, result, computed, done, Found, suits, suits_by, refer, wants_reference}
 
 wrong_real : {A : Type 0} (at : At) (o : Option A) (g : CheckFault) → or_fault (fault.WrongMode at) o ≡ Err g → is_unknown g ≡ false
 wrong_real at None g e = let is : fault.WrongMode at ≡ g = cc in rw (← is) refl

@@ -45,7 +45,7 @@ use Rattle.rt_exprs.specs.declared.operand.Standing.{Standing}
 use Rattle.rt_exprs.specs.declared.operand.Standing.TheVariants as standing
 use Rattle.rt_exprs.specs.declared.scope.Meaning.{Meaning}
 use Rattle.rt_exprs.specs.declared.scope.Meaning.TheVariants as meaning
-use Rattle.rt_exprs.specs.declared.scope.Scope.{Scope}
+use Rattle.rt_exprs.specs.Sights.{Sight}
 use Rattle.rt_exprs.specs.Modes.{Want, basic, ref, row, want, ref_of, record_of, through, array_at, base_of}
 use Rattle.rt_exprs.specs.Outcomes.{Outcome, ◌>>=◌, unknown, both, after, or_fault, or_other, sooner}
 use Rattle.rt_exprs.specs.Names.{find, text_at}
@@ -366,10 +366,10 @@ abbrev pub begun : At → Option Meaning → Outcome Judged
 begun at m = named at m >>= λ is. Ok (seen_as true at is)
 
 -- a chain: its name, then its links
-abbrev pub chained : Scope → List ℕ → At → List (Outcome Judged → Outcome Judged) → Outcome Judged
+abbrev pub chained : Sight → List ℕ → At → List (Outcome Judged → Outcome Judged) → Outcome Judged
 chained s name at links = walk links (begun at (find s name))
 
-abbrev pub expr_step : Scope → Expr-F (Outcome Judged) (Outcome Judged → Outcome Judged) (Outcome Judged) → Outcome Judged
+abbrev pub expr_step : Sight → Expr-F (Outcome Judged) (Outcome Judged → Outcome Judged) (Outcome Judged) → Outcome Judged
 expr_step s (Expr-F.Number n at) = Ok (seen_as true at (number n))
 expr_step s (Expr-F.Text bytes at) = text_at s at
 expr_step s (Expr-F.Chain c) = c
@@ -377,29 +377,29 @@ expr_step s (Expr-F.Val c at) = val at c
 expr_step s (Expr-F.Monadic op a at) = monadic at op a
 expr_step s (Expr-F.Dyadic op a b at) = dyadic at op a b
 
-abbrev pub link_step : Scope → Link-F (Outcome Judged) (Outcome Judged → Outcome Judged) (Outcome Judged) → Outcome Judged → Outcome Judged
-link_step s (Link-F.Dot name at) = dot_after s.modes.now.records name at
+abbrev pub link_step : Sight → Link-F (Outcome Judged) (Outcome Judged → Outcome Judged) (Outcome Judged) → Outcome Judged → Outcome Judged
+link_step s (Link-F.Dot name at) = dot_after s.records name at
 link_step s (Link-F.Apply es at) = apply_after at es
 
-abbrev pub chain_step : Scope → Chain-F (Outcome Judged) (Outcome Judged → Outcome Judged) (Outcome Judged) → Outcome Judged
+abbrev pub chain_step : Sight → Chain-F (Outcome Judged) (Outcome Judged → Outcome Judged) (Outcome Judged) → Outcome Judged
 chain_step s c = chained s c.name c.at c.links
 
 -- what an expression, a link and a chain are
-unfoldable pub judged : Scope → Expr → Outcome Judged
+unfoldable pub judged : Sight → Expr → Outcome Judged
 judged s = fold-Expr (Outcome Judged) (Outcome Judged → Outcome Judged) (Outcome Judged) (expr_step s) (link_step s) (chain_step s)
 
-unfoldable pub linked : Scope → Link → Outcome Judged → Outcome Judged
+unfoldable pub linked : Sight → Link → Outcome Judged → Outcome Judged
 linked s = fold-Link (Outcome Judged) (Outcome Judged → Outcome Judged) (Outcome Judged) (expr_step s) (link_step s) (chain_step s)
 
-unfoldable pub judged_chain : Scope → Chain → Outcome Judged
+unfoldable pub judged_chain : Sight → Chain → Outcome Judged
 judged_chain s = fold-Chain (Outcome Judged) (Outcome Judged → Outcome Judged) (Outcome Judged) (expr_step s) (link_step s) (chain_step s)
 
 -- the value that an expression is where a mode is wanted, or its first fault
-abbrev pub fitted : Scope → Expr → Want → Outcome Value
+abbrev pub fitted : Sight → Expr → Want → Outcome Value
 fitted s e w = fits (judged s e) w
 
 -- the fault of an expression that is judged by itself
-abbrev pub fitted_alone : Scope → Expr → CheckFault
+abbrev pub fitted_alone : Sight → Expr → CheckFault
 fitted_alone s e = by_itself (judged s e)
 
 -- where an expression begins
@@ -417,7 +417,7 @@ nowhere at (Ok j) = fault.WrongMode j.found.at
 nowhere at (Err fault.Unknown) = fault.WrongMode at
 nowhere at (Err g) = g
 
-abbrev pub fitted_nowhere : Scope → Expr → CheckFault
+abbrev pub fitted_nowhere : Sight → Expr → CheckFault
 fitted_nowhere s e = nowhere (begins_at (out-Expr e)) (judged s e)
 
 -- ---- places that are assigned, and calls that stand alone
@@ -449,10 +449,10 @@ is_brick (Some meaning.UnknownProc) [] = true
 is_brick _ _ = false
 
 -- the place that a chain, or VAL and a chain, assigns, and its mode
-abbrev pub target : Scope → Chain → Outcome (Option Place × Mode)
+abbrev pub target : Sight → Chain → Outcome (Option Place × Mode)
 target s c = if is_brick (find s (out-Chain c).name) (out-Chain c).links then Err (fault.NotAssignable (out-Chain c).at) else judged_chain s c >>= assigned
 
-abbrev pub val_target : Scope → At → Chain → Outcome (Option Place × Mode)
+abbrev pub val_target : Sight → At → Chain → Outcome (Option Place × Mode)
 val_target s at c = val at (judged_chain s c) >>= assigned
 
 -- a chain that stands alone is a call
@@ -483,7 +483,7 @@ call_if at true (Err g) = Err g
 call_if at false (Err fault.Unknown) = Err (fault.WrongMode at)
 call_if at false (Err g) = Err g
 
-abbrev pub alone : Scope → Chain → Outcome Value
+abbrev pub alone : Sight → Chain → Outcome Value
 alone s c = call_if (out-Chain c).at (ends_in_apply (out-Chain c).links) (judged_chain s c)
 
 -- ---- conditions
@@ -536,11 +536,11 @@ abbrev pub all_from : Outcome (List Test) → List (Outcome Test) → Outcome (L
 all_from so_far [] = so_far
 all_from so_far (t ∷ ts) = all_from (after so_far t) ts
 
-abbrev pub cond_step : Scope → Cond-F (Outcome Test) → Outcome Test
+abbrev pub cond_step : Sight → Cond-F (Outcome Test) → Outcome Test
 cond_step s (Cond-F.Or cs at) = all_from (Ok []) cs >>= λ ts. Ok (tests.Or ts)
 cond_step s (Cond-F.And cs at) = all_from (Ok []) cs >>= λ ts. Ok (tests.And ts)
 cond_step s (Cond-F.Compare r a b at) = compare r (judged s a) (judged s b)
 
 -- the test that a condition is
-unfoldable pub tested : Scope → Cond → Outcome Test
+unfoldable pub tested : Sight → Cond → Outcome Test
 tested s = fold-Cond (Outcome Test) (cond_step s)

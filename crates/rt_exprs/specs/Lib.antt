@@ -3,6 +3,8 @@ pub mod Fitting
 pub mod Modes
 pub mod Outcomes
 pub mod Operands
+pub mod Sights
+pub mod Kept
 pub mod Names
 pub mod Following
 pub mod Indexed

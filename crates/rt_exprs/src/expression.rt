@@ -6,6 +6,7 @@ ghost use Rattle.rt_exprs.specs.Fitting.{Fits, Faulty};
 ghost use Rattle.rt_syntax_exprs.specs.declared.tree.Expr.{out-Expr};
 ghost use Rattle.rt_exprs.specs.Judging as spec;
 ghost use Rattle.rt_exprs.specs.Modes.{want};
+ghost use Rattle.rt_exprs.specs.Sights.{Sight};
 ghost use Rattle.std.specs.Option.{option_copied};
 ghost use Rattle.rt_exprs.specs.Operands.{Judged, judged_of, want_of};
 ghost use Rattle.rt_exprs.specs.Outcomes.{Outcome, Gives, UnlessMemory};
@@ -92,7 +93,7 @@ fn follow<'a>(
     ensures { (t : Outcome Judged) → Gives judged_of operand.entry t → Gives judged_of result (spec.linked scope.now link.now t) }
 {
     match link {
-        Link::Dot(name, at) => dot(alloc, scope.modes, name, *at, operand),
+        Link::Dot(name, at) => dot(alloc, scope.modes(), name, *at, operand),
         Link::Apply(arguments, at) => {
             let arguments = arguments.as_slice();
             match operand {
@@ -274,6 +275,6 @@ pub fn fit(
 
 /// At most one value fits, and none where a fault stands.
 pub fn one_value()
-    ensures one { (s : Scope) → (e : Expr) → (m : Mode) → (x y : Value) → Fits s e m x → Fits s e m y → x ≡ y }
-    ensures none { (s : Scope) → (e : Expr) → (m : Mode) → (x : Value) → (g : CheckFault) → Fits s e m x → Faulty s e m g → ⊥ }
+    ensures one { (s : Sight) → (e : Expr) → (m : Mode) → (x y : Value) → Fits s e m x → Fits s e m y → x ≡ y }
+    ensures none { (s : Sight) → (e : Expr) → (m : Mode) → (x : Value) → (g : CheckFault) → Fits s e m x → Faulty s e m g → ⊥ }
 {}

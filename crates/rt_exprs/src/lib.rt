@@ -1,6 +1,8 @@
 //! Expressions: which value an expression is where a mode is wanted, which place is assigned, which call a chain is that
 //! stands alone, and which test a condition is; else the fault that counts (BS 5904, expressions and modes).
 //!
+//! `specs/Sights.antt` says what a node sees, in lists and records: contracts see a [`Level`] and a [`Scope`] so.
+//!
 //! Of one operand: `specs/Outcomes.antt` has the faults of a module and which of them counts, `specs/Names.antt` what names
 //! stand for, `specs/Indexed.antt` the maps by which fields are found, `specs/Modes.antt` and `specs/Operands.antt` the
 //! rules; `specs/Following.antt` says by the REFs in front of a mode what a value is where another mode is wanted
@@ -16,6 +18,7 @@
 mod condition;
 mod expression;
 mod fault;
+mod level;
 mod links;
 mod modes;
 mod names;
@@ -29,12 +32,13 @@ mod target;
 pub use condition::fit_condition;
 pub use expression::{fit, fit_by_itself, fit_nothing, one_value};
 pub use fault::{CheckFault, after, both, or_other};
+pub use level::Level;
 pub use modes::{
     array_at, base_of, lent, record_of, ref_of, references_are_followed, through, wanted,
 };
-pub use names::{find, name_at, text_at};
+pub use names::{find, find_name, name_at, text_at};
 pub use operand::{Base, Meant, Operand, Standing, Wanted};
 pub use records::{IndexedRecords, field_named};
-pub use scope::{Level, Meaning, Scope};
+pub use scope::{Meaning, Scope};
 pub use suit::{fits, suits};
 pub use target::{fit_call, fit_target, fit_val_target};

@@ -7,22 +7,30 @@ ghost use Rattle.rt_exprs.specs.Operands.{seen, judged_of, named};
 ghost use Rattle.rt_exprs.specs.Outcomes.{Gives};
 
 use crate::fault::CheckFault;
+use crate::level::Level;
 use crate::operand::{Meant, Operand, Standing};
 use crate::scope::{Meaning, Scope};
 use rt_grammar::At;
 use rt_tree_nodes::Place;
 
-/// What a name stands for in the innermost level that has it.
+/// What a name stands for in the innermost level that has it; the levels stand innermost first.
 #[tactic(auto, unfolding(crate::specs::Names::find_in))]
-pub fn find<'a>(scope: &Scope<'a>, name: &[u8]) -> Option<&'a Meaning>
-    ensures { option_copied result ≡ spec.find scope.now name.now }
+pub fn find_name<'a>(levels: &'a [Level<'_>], name: &[u8]) -> Option<&'a Meaning>
+    ensures { option_copied result ≡ spec.find_in levels.now name.now }
 {
-    for level in scope.levels {
+    for level in levels {
         if let Some(meaning) = level.get(name) {
             return Some(meaning);
         }
     }
     None
+}
+
+/// What a name stands for at a place.
+pub fn find<'a>(scope: &Scope<'a>, name: &[u8]) -> Option<&'a Meaning>
+    ensures { option_copied result ≡ spec.find scope.now name.now }
+{
+    find_name(scope.levels(), name)
 }
 
 /// What a name is by itself, if it stands at this place.
@@ -59,7 +67,7 @@ pub fn name_at<'a>(meaning: Option<&'a Meaning>, at: At) -> Result<Meant<'a>, Ch
 pub fn text_at<'a>(scope: &Scope<'a>, at: At) -> Result<Operand<'a>, CheckFault>
     ensures { Gives judged_of result (spec.text_at scope.now at) }
 {
-    match scope.strings.get_index_of(&at.item) {
+    match scope.string_at(at.item) {
         Some(number) if number < 65536 => Ok(Operand {
             at,
             is: Meant::Text(number as u16),

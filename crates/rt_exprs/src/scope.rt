@@ -1,8 +1,12 @@
-//! What names stand for.
+//! What names stand for, and what an expression sees.
 
+ghost use Rattle.std.specs.Prelude.{◌≡◌, ◌==◌, position};
+
+use crate::level::Level;
 use crate::records::IndexedRecords;
-use indexmap::{IndexMap, IndexSet};
-use rt_modes::Mode;
+use indexmap::IndexSet;
+use rt_modes::{Mode, ModeTable};
+use std::marker::Model;
 
 /// What a name stands for.
 #[derive(Debug, Drop)]
@@ -33,16 +37,69 @@ pub enum Meaning {
     Unknown,
 }
 
-/// The names of one level, in the order of declaration, and what they stand for.
-pub type Level<'n> = IndexMap<&'n [u8], Meaning>;
-
-/// The names that may be used at a place.
+/// What an expression sees: the records of its module, the items of the module's strings, and the levels of names. Contracts
+/// see it as a `Sight`.
 #[derive(Drop)]
 pub struct Scope<'a> {
+    modes: &'a IndexedRecords,
+    strings: &'a IndexSet<u16>,
+    levels: &'a [Level<'a>],
+}
+
+impl<'a> Model for Scope<'a> {
+    ghost use Rattle.std.specs.Coded.{codes};
+    ghost use Rattle.rt_modes.specs.contracts.mode.Mode as trees;
+    ghost use Rattle.rt_exprs.specs.Sights.{Sight};
+
+    ghost Value = { Sight };
+
+    ghost coded = { Prim.hlevel (codes, trees.the_row.coded) };
+
+    ghost view = { λ s. record { records = s.modes.now.records; strings = s.strings.now.keys; levels = s.levels.now } };
+}
+
+impl<'a> Scope<'a> {
+    /// What is seen among these records, items of strings, and levels of names, innermost first. A string's number is its place
+    /// among the items, from 0.
+    pub fn new(
+        modes: &'a IndexedRecords,
+        strings: &'a IndexSet<u16>,
+        levels: &'a [Level<'a>],
+    ) -> Scope<'a>
+        ensures { result ≡ record { records = modes.now.records; strings = strings.now.keys; levels = levels.now } }
+    {
+        Scope {
+            modes,
+            strings,
+            levels,
+        }
+    }
+
     /// The records of the module.
-    pub modes: &'a IndexedRecords,
-    /// The items of the module's strings in their order; a string's number is its place here, from 0.
-    pub strings: &'a IndexSet<u16>,
+    pub fn modes(&self) -> &'a IndexedRecords
+        ensures { result.now.records ≡ self.now.records }
+    {
+        self.modes
+    }
+
+    /// The table of the records.
+    pub fn table(&self) -> &'a ModeTable
+        ensures { result.now.records ≡ self.now.records }
+    {
+        self.modes.table()
+    }
+
     /// The levels of names, innermost first.
-    pub levels: &'a [Level<'a>],
+    pub fn levels(&self) -> &'a [Level<'a>]
+        ensures { result.now ≡ self.now.levels }
+    {
+        self.levels
+    }
+
+    /// The number of the string that begins at an item.
+    pub fn string_at(&self, item: u16) -> Option<usize>
+        ensures { result ≡ position (λ x. x == item) self.now.strings }
+    {
+        self.strings.get_index_of(&item)
+    }
 }

@@ -8,7 +8,7 @@ use Rattle.rt_syntax_exprs.specs.declared.tree.Cond.{Cond}
 use Rattle.rt_syntax_exprs.specs.declared.tree.Expr.{Expr}
 use Rattle.rt_exprs.specs.declared.fault.CheckFault.{CheckFault}
 use Rattle.rt_exprs.specs.declared.fault.CheckFault.TheVariants.{Unknown}
-use Rattle.rt_exprs.specs.declared.scope.Scope.{Scope}
+use Rattle.rt_exprs.specs.Sights.{Sight}
 use Rattle.rt_exprs.specs.Fitting.{FitsBy, Unfit, Alone, UnfitAlone, AssignsAs, NotAssigned, AssignsValAs, NotAssignedVal, CallIs, NoCall, TestIs, FaultInTest}
 use Rattle.rt_exprs.specs.Judging.{judged, fitted, fitted_alone, target, val_target, alone, tested}
 use Rattle.rt_exprs.specs.Modes.{Want}
@@ -59,22 +59,22 @@ module _ {A : Type 0} (t : Outcome A) (Holds : A → Type 0) (Stands : CheckFaul
   exact : IsExact t Holds Stands
   exact = record { found = found; holds = holds; least = least; counts = counts; hidden = by_outcome t refl; none_stands = λ e g k. none_behind t Holds Stands holds found stands stops e g k }
 
-pub expressions_exact : (s : Scope) (e : Expr) (w : Want) → IsExact (fitted s e w) (FitsBy s e w) (Unfit s e w)
+pub expressions_exact : (s : Sight) (e : Expr) (w : Want) → IsExact (fitted s e w) (FitsBy s e w) (Unfit s e w)
 expressions_exact s e w = exact (fitted s e w) (FitsBy s e w) (Unfit s e w) (fit_holds s e w) (fit_found s e w) (fit_stands s e w) (λ g u. unfit_stops u)
 
-pub targets_exact : (s : Scope) (c : Chain) → IsExact (target s c) (AssignsAs s c) (NotAssigned s c)
+pub targets_exact : (s : Sight) (c : Chain) → IsExact (target s c) (AssignsAs s c) (NotAssigned s c)
 targets_exact s c = exact (target s c) (AssignsAs s c) (NotAssigned s c) (target_holds s c) (target_found s c) (target_stands s c) (target_stops s c)
 
-pub val_targets_exact : (s : Scope) (at : At) (c : Chain) → IsExact (val_target s at c) (AssignsValAs s at c) (NotAssignedVal s at c)
+pub val_targets_exact : (s : Sight) (at : At) (c : Chain) → IsExact (val_target s at c) (AssignsValAs s at c) (NotAssignedVal s at c)
 val_targets_exact s at c = exact (val_target s at c) (AssignsValAs s at c) (NotAssignedVal s at c) (val_holds s at c) (val_found s at c) (val_stands s at c) (val_stops s at c)
 
-pub calls_exact : (s : Scope) (c : Chain) → IsExact (alone s c) (CallIs s c) (NoCall s c)
+pub calls_exact : (s : Sight) (c : Chain) → IsExact (alone s c) (CallIs s c) (NoCall s c)
 calls_exact s c = exact (alone s c) (CallIs s c) (NoCall s c) (call_holds s c) (call_found s c) (call_stands s c) (call_stops s c)
 
-pub tests_exact : (s : Scope) (c : Cond) → IsExact (tested s c) (TestIs s c) (FaultInTest s c)
+pub tests_exact : (s : Sight) (c : Cond) → IsExact (tested s c) (TestIs s c) (FaultInTest s c)
 tests_exact s c = exact (tested s c) (TestIs s c) (FaultInTest s c) (test_holds s c) (λ t h. test_judged h) (test_stands s c) (λ g h. test_stops h)
 
-pub alone_exact : (s : Scope) (e : Expr) → IsLeastAlone s e
+pub alone_exact : (s : Sight) (e : Expr) → IsLeastAlone s e
 alone_exact s e = record { counts = counts; none_stands = none_stands } where
   counts : is_unknown (fitted_alone s e) ≡ false → IsLeast (UnfitAlone s e) (fitted_alone s e)
   counts n = record { stands = bad_is (Alone s e) (UnfitAlone s e) (fitted_alone s e) (sound_alone s e (judged s e) (expr_sound s e)) n; least = λ h k. (alone_reaches k).counts }

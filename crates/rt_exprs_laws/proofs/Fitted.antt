@@ -30,7 +30,7 @@ use Rattle.rt_exprs.specs.declared.operand.Standing.{Standing}
 use Rattle.rt_exprs.specs.declared.operand.Standing.TheVariants as standing
 use Rattle.rt_exprs.specs.declared.scope.Meaning.{Meaning}
 use Rattle.rt_exprs.specs.declared.scope.Meaning.TheVariants as meaning
-use Rattle.rt_exprs.specs.declared.scope.Scope.{Scope as Names}
+use Rattle.rt_exprs.specs.Sights.{Sight}
 use Rattle.rt_exprs.specs.Modes.{Want, basic, want}
 use Rattle.rt_exprs.specs.Names.{find}
 use Rattle.rt_exprs.specs.Operands.{Is, number, text, brick, place, loop, result, computed, done, Found, named, field_from, as_word, field_in, field_of, first_field, is_label, unless_label, if_known_mode, suits_by}
@@ -121,7 +121,7 @@ known_first (Some y) x e = by_label (is_label (out-Mode y.1)) e where
   by_label true q = absurd cc
   by_label false q = q
 
-module _ (s : Names) (c : Scope) (agree : Agree s c) where
+module _ (s : Sight) (c : Scope) (agree : Agree s c) where
   -- the value that suits where a mode of one word is wanted, but for a number where BYTE is
   base_suits : (at : At) (is : Is) (b : Base) (x : Value) → IsTyped c is → suits_by at is (basic b) ≡ Ok x → suits (of_base b) (valued c x) ≡ true
   base_suits at is b x h e = suits_here c at is (of_base b) x h (base_stands b) (subst (λ (w : Want). suits_by at is w ≡ Ok x) (sym (want_base b)) e)
@@ -152,7 +152,7 @@ module _ (s : Names) (c : Scope) (agree : Agree s c) where
 
   text_typed : (at : At) (n : ℕ) → string_at s at ≡ Some n → IsTyped c (text n)
   text_typed at n e =
-      let l : n < length s.strings.now.keys = (position-Some (λ x. x == at.item) s.strings.now.keys n 0 e).0 in
+      let l : n < length s.strings = (position-Some (λ x. x == at.item) s.strings n 0 e).0 in
       let k : n < c.strings = subst (λ (z : ℕ). n < z) agree.strings l in
       grind (arith, nat_tests)
 
@@ -175,7 +175,7 @@ module _ (s : Names) (c : Scope) (agree : Agree s c) where
   name_typed at None is h e = absurd cc
   name_typed at (Some x) is h e = meaning_typed at x is (h x refl) e
 
-  field_is : (p : Place) (r k : ℕ) (name : List ℕ) (st : Standing) (m : Mode) → RecordAt c p r st → field_of s.modes.now.records r name ≡ Some (k, m) → PlaceIs c (places.Field p k) m st
+  field_is : (p : Place) (r k : ℕ) (name : List ℕ) (st : Standing) (m : Mode) → RecordAt c p r st → field_of s.records r name ≡ Some (k, m) → PlaceIs c (places.Field p k) m st
   field_is p r k name st m h e =
       let d : field_of c.records r name ≡ Some (k, m) = subst (λ (z : List RecordDef). field_of z r name ≡ Some (k, m)) agree.records e in
       let g = field_there c.records r name (k, m) (slice_get c.records r) refl (known_first (first_field c.records r name) (k, m) d) in

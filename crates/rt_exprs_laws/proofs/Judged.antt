@@ -13,7 +13,7 @@ use Rattle.rt_tree_nodes.specs.Scopes.{Scope, passes}
 use Rattle.rt_tree_nodes.specs.Typing.{suits, valued, is_int}
 use Rattle.rt_tree_nodes.proofs.Same.{same_itself}
 use Rattle.rt_exprs.specs.declared.operand.Base.TheVariants as base
-use Rattle.rt_exprs.specs.declared.scope.Scope.{Scope as Names}
+use Rattle.rt_exprs.specs.Sights.{Sight}
 use Rattle.rt_exprs.specs.Modes.{want}
 use Rattle.rt_exprs.specs.Judging.{fitted, target, val_target, alone, tested as tested_by}
 use Rattle.rt_exprs.proofs.Judged.{fit_holds}
@@ -28,7 +28,7 @@ use Rattle.rt_exprs_laws.proofs.Fitted.{fits_suit, base_stands}
 use Rattle.rt_exprs_laws.proofs.Targets.{target_assigned, val_assigned, call_stands}
 use Rattle.rt_exprs_laws.proofs.Tests.{test_fits}
 
-module _ (s : Names) (c : Scope) (agree : Agree s c) where
+module _ (s : Sight) (c : Scope) (agree : Agree s c) where
   pub value_judged : (e : Expr) (m : Mode) (x : Value) → IsValue m → fitted s e (want m) ≡ Ok x → suits m (valued c x) ≡ true
   value_judged e m x v h = fits_suit s c agree (fit_holds s e (want m) x h) m refl v
 

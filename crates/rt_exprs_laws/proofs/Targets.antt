@@ -10,7 +10,7 @@ use Rattle.rt_tree_nodes.specs.Typing.{Found, Variable, Shared, Private, placed,
 use Rattle.rt_exprs.specs.declared.fault.CheckFault.TheVariants as fault
 use Rattle.rt_exprs.specs.declared.operand.Standing.{Standing}
 use Rattle.rt_exprs.specs.declared.operand.Standing.TheVariants as standing
-use Rattle.rt_exprs.specs.declared.scope.Scope.{Scope as Names}
+use Rattle.rt_exprs.specs.Sights.{Sight}
 use Rattle.rt_exprs.specs.Operands.{Is, place, result, done}
 use Rattle.rt_exprs.specs.Outcomes.{Outcome}
 use Rattle.rt_exprs.specs.Fitting as f
@@ -23,7 +23,7 @@ use Rattle.rt_exprs_laws.proofs.Suiting.{PlaceIs, IsTyped}
 use Rattle.rt_exprs_laws.proofs.Links.{TargetTyped, target_typed, place_item}
 use Rattle.rt_exprs_laws.proofs.Fitted.{chain_typed}
 
-module _ (s : Names) (c : Scope) (agree : Agree s c) where
+module _ (s : Sight) (c : Scope) (agree : Agree s c) where
   found_assigned : (p : Place) (m : Mode) (g : Found) → (placed c p).found ≡ Some g → assigned_mode g ≡ value_mode m → IsValue m → MayBeAssigned c p m
   found_assigned p m g e a v = (rw e (a ∙ rw (is_read m v) refl), v)
 

@@ -23,7 +23,7 @@ use Rattle.rt_tree_nodes.specs.Typing.{valued, is_byte, is_reference, compare_fi
 use Rattle.rt_tree_nodes.proofs.Same.{same_itself}
 use Rattle.rt_exprs.specs.declared.operand.Base.{Base}
 use Rattle.rt_exprs.specs.declared.operand.Base.TheVariants as base
-use Rattle.rt_exprs.specs.declared.scope.Scope.{Scope as Names}
+use Rattle.rt_exprs.specs.Sights.{Sight}
 use Rattle.rt_exprs.specs.Modes.{Want, basic, ref, row, want, want_by}
 use Rattle.rt_exprs.specs.Operands.{Is, text, place, loop, result, suits_by}
 use Rattle.rt_exprs.specs.Fitting as f
@@ -118,7 +118,7 @@ result_wanted r m (Mode-F.Ref n) w go o i e = same_want r (ref n) w e (ref_wante
 result_wanted r m (Mode-F.RefArray n) w go o i e = same_want r (row n) w e (row_wanted r n go (row_inner m n o i))
 result_wanted r m _ w go o i e = absurd cc
 
-module _ (s : Names) (c : Scope) (agree : Agree s c) where
+module _ (s : Sight) (c : Scope) (agree : Agree s c) where
   reference_wanted : (r : Rel) (is : Is) (w : Want) → IsReferenceRel r → IsTyped c is → reference_in is ≡ Some w → Compared r w
   reference_wanted r (text n) w go h e = same_want r (row mode.Byte) w e (row_wanted r mode.Byte go (ap (λ x. x.inner) (stands_at mode.Byte Mode-F.Byte out_byte)))
   reference_wanted r (place p m st) w go h e = same_want r (place_compares m (out-Mode m)) w e (plain_place r m (out-Mode m) go refl (place_item c p m st h))

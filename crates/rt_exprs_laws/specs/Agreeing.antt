@@ -11,7 +11,7 @@ use Rattle.rt_tree_nodes.specs.Scopes.{Scope, svc_mode, proc_mode}
 use Rattle.rt_tree_nodes.specs.Typing.{Shared, Private, item_found}
 use Rattle.rt_exprs.specs.declared.scope.Meaning.{Meaning}
 use Rattle.rt_exprs.specs.declared.scope.Meaning.TheVariants as meaning
-use Rattle.rt_exprs.specs.declared.scope.Scope.{Scope as Names}
+use Rattle.rt_exprs.specs.Sights.{Sight}
 use Rattle.rt_exprs.specs.Names.{find}
 
 -- ---- where a mode may stand
@@ -70,8 +70,8 @@ abbrev pub HasItems : RecordDef → Type 0
 HasItems d = AllByRecursion (λ (f : Field). IsItem f.mode) d.fields
 
 -- The names and the tree agree.
-pub record Agree (s : Names) (c : Scope) : Type 0 where
-  pub records : s.modes.now.records ≡ c.records
+pub record Agree (s : Sight) (c : Scope) : Type 0 where
+  pub records : s.records ≡ c.records
   pub fields : (r : ℕ) (d : RecordDef) → slice_get c.records r ≡ Some d → HasItems d
-  pub strings : length s.strings.now.keys ≡ c.strings
+  pub strings : length s.strings ≡ c.strings
   pub names : (name : List ℕ) (is : Meaning) → find s name ≡ Some is → IsThere c is

@@ -6,7 +6,7 @@ use Rattle.rt_syntax_exprs.specs.declared.tree.Cond.{Cond}
 use Rattle.rt_syntax_exprs.specs.declared.tree.Expr.{Expr}
 use Rattle.rt_exprs.specs.declared.fault.CheckFault.{CheckFault}
 use Rattle.rt_exprs.specs.declared.fault.CheckFault.TheVariants.{Unknown}
-use Rattle.rt_exprs.specs.declared.scope.Scope.{Scope}
+use Rattle.rt_exprs.specs.Sights.{Sight}
 use Rattle.rt_exprs.specs.Fitting.{FitsBy, Unfit, UnfitAlone, AssignsAs, NotAssigned, AssignsValAs, NotAssignedVal, CallIs, NoCall, TestIs, FaultInTest}
 use Rattle.rt_exprs.specs.Judging.{fitted, fitted_alone, target, val_target, alone, tested}
 use Rattle.rt_exprs.specs.Modes.{Want}
@@ -30,25 +30,25 @@ pub record IsExact {A : Type 0} (outcome : Outcome A) (Holds : A → Type 0) (St
 -- Of an expression where a mode is wanted, of the target of an assignment and of VAL, of a chain that stands alone, and of a condition what
 -- is computed is exact.
 abbrev pub ExpressionsAreExact : Type 0
-ExpressionsAreExact = (s : Scope) (e : Expr) (w : Want) → IsExact (fitted s e w) (FitsBy s e w) (Unfit s e w)
+ExpressionsAreExact = (s : Sight) (e : Expr) (w : Want) → IsExact (fitted s e w) (FitsBy s e w) (Unfit s e w)
 
 abbrev pub TargetsAreExact : Type 0
-TargetsAreExact = (s : Scope) (c : Chain) → IsExact (target s c) (AssignsAs s c) (NotAssigned s c)
+TargetsAreExact = (s : Sight) (c : Chain) → IsExact (target s c) (AssignsAs s c) (NotAssigned s c)
 
 abbrev pub ValTargetsAreExact : Type 0
-ValTargetsAreExact = (s : Scope) (at : At) (c : Chain) → IsExact (val_target s at c) (AssignsValAs s at c) (NotAssignedVal s at c)
+ValTargetsAreExact = (s : Sight) (at : At) (c : Chain) → IsExact (val_target s at c) (AssignsValAs s at c) (NotAssignedVal s at c)
 
 abbrev pub CallsAreExact : Type 0
-CallsAreExact = (s : Scope) (c : Chain) → IsExact (alone s c) (CallIs s c) (NoCall s c)
+CallsAreExact = (s : Sight) (c : Chain) → IsExact (alone s c) (CallIs s c) (NoCall s c)
 
 abbrev pub TestsAreExact : Type 0
-TestsAreExact = (s : Scope) (c : Cond) → IsExact (tested s c) (TestIs s c) (FaultInTest s c)
+TestsAreExact = (s : Sight) (c : Cond) → IsExact (tested s c) (TestIs s c) (FaultInTest s c)
 
 -- The same of an expression that is judged by itself, where no mode is known to be wanted: its fault counts of those that stand in it by
 -- itself, or none stands.
-pub record IsLeastAlone (s : Scope) (e : Expr) : Type 0 where
+pub record IsLeastAlone (s : Sight) (e : Expr) : Type 0 where
   pub counts : is_unknown (fitted_alone s e) ≡ false → IsLeast (UnfitAlone s e) (fitted_alone s e)
   pub none_stands : is_unknown (fitted_alone s e) ≡ true → (g : CheckFault) → UnfitAlone s e g → ⊥
 
 abbrev pub AloneIsExact : Type 0
-AloneIsExact = (s : Scope) (e : Expr) → IsLeastAlone s e
+AloneIsExact = (s : Sight) (e : Expr) → IsLeastAlone s e

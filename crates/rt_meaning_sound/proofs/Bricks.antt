@@ -10,10 +10,9 @@ use Rattle.rt_modes.specs.declared.mode.Field.{Field}
 use Rattle.rt_tree_nodes.specs.declared.brick.Brick.{Brick}
 use Rattle.rt_tree_nodes.specs.declared.brick.BrickSort.TheVariants as brick_sort
 use Rattle.rt_tree_nodes.specs.declared.brick.DataStart.{DataStart}
-use Rattle.rt_exprs.specs.declared.scope.Scope.{Scope}
+use Rattle.rt_exprs.specs.Sights.{Sight}
 use Rattle.rt_exprs.specs.Names.{find}
 use Rattle.rt_syntax.specs.Strings.{Texts}
-use Rattle.rt_check_bodies.specs.Sights.{Sight, scope_of}
 use Rattle.rt_bricks_laws.specs.Bodies.{all as all_so}
 use Rattle.rt_bricks_laws.specs.Numbers.{words_in_mode, words_if_started, words_in_item, words_in_line, words_in_declaration}
 use Rattle.rt_bricks_laws.specs.Strings.{in_any, in_items, in_lines}
@@ -37,11 +36,11 @@ use Rattle.rt_meaning_sound.proofs.Made.{made_words}
 
 -- ---- the starts of a brick
 
-module _ (s : Scope) where
+module _ (s : Sight) where
   start_words : (o : Option Start) (g : Given) (prior : Texts) → AreBytes (in_any o prior) → words_if_started o ≡ true → AreWords (start_by s o g)
   start_words None (given.Mode m) prior b w = default_words (records s) m
   start_words None given.Unknown prior b w = zero_words
-  start_words (Some x) (given.Mode m) prior b w = made_words (records s) (find s) s.strings.now.keys x prior m b w
+  start_words (Some x) (given.Mode m) prior b w = made_words (records s) (find s) s.strings x prior m b w
   start_words (Some x) given.Unknown prior b w = zero_words
 
   items_words : (is : List DataItem) (ps : List Part) (prior : Texts) → AreBytes (in_items is prior) → all_so (map words_in_item is) ≡ true → AllByRecursion AreWords (items_starts s is ps)
@@ -69,7 +68,7 @@ NumbersIn d = words_in_declaration d ≡ true
 
 module _ (s : Sight) where
   one_words : (h : Option Heading) (d : Declaration) → ShortIn d → NumbersIn d → AllByRecursion FillingWords (fillings_in s h d)
-  one_words h (declares.Data d) b w = (lines_words (scope_of s) d.lines (items_in h) [] (short_bytes (in_lines d.lines []) b) w, tt)
+  one_words h (declares.Data d) b w = (lines_words s d.lines (items_in h) [] (short_bytes (in_lines d.lines []) b) w, tt)
   one_words h (declares.Procedure p) b w = (tt, tt)
   one_words h (declares.Record r) b w = all_copies FillingWords (bricks_in (declares.Record r)) nothing tt
   one_words h (declares.Stack x) b w = all_copies FillingWords (bricks_in (declares.Stack x)) nothing tt

@@ -16,7 +16,7 @@ use Rattle.rt_tree_nodes.specs.declared.value.Value.{Value}
 use Rattle.rt_tree_nodes.specs.Scopes.{Scope, with}
 use Rattle.rt_tree_nodes.specs.Tree.{Cond, Is, Both, Either}
 use Rattle.rt_tree_nodes.specs.Typing.{Found, Row, Spot, OnLocal, OnPath, OnRow, assigned_mode, placed, valued}
-use Rattle.rt_exprs.specs.declared.scope.Scope.{Scope as Names}
+use Rattle.rt_exprs.specs.Sights.{Sight}
 use Rattle.rt_exprs.specs.Fitting as f
 use Rattle.rt_exprs.specs.Fitting.{Assigns, AssignsVal, TestIs, TestsAre}
 use Rattle.rt_tree.specs.Statements.{Tested, tested, joined_by}
@@ -72,7 +72,7 @@ module _ (c : Scope) where
   tree_or : (ts : List Test) → (tested c (tests.Or ts)).tree ≡ joined_by Either (map (tested c) ts)
   tree_or ts = let o : out-Test (tests.Or ts) ≡ Test-F.Or ts = search test_lemmas.the_lemmas in rw (fold_out-Test, o) refl
 
-module _ (s : Names) (c : Scope) (k : Started) (short : AllShort c) (locals : LocalsSeen s k) where
+module _ (s : Sight) (c : Scope) (k : Started) (short : AllShort c) (locals : LocalsSeen s k) where
   pub targets_named : Agree s c → {h : Chain} {x : Place × Mode} → Assigns s h x → words_in_chain h ≡ true → SpotNamed k (placed c x.0).tree
   targets_named agree {x = x} a w = place_assigned k c x.0 x.1 (assigns_seen s c k short locals a w) (target_assigned s c agree a)
 

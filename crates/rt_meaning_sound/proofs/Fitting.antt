@@ -10,7 +10,7 @@ use Rattle.rt_tree_nodes.specs.declared.value.Value.{Value}
 use Rattle.rt_tree_nodes.specs.Scopes.{Scope}
 use Rattle.rt_tree_nodes.specs.Typing.{valued, terms_of}
 use Rattle.rt_exprs.specs.declared.operand.Standing.TheVariants as standing
-use Rattle.rt_exprs.specs.declared.scope.Scope.{Scope as Names}
+use Rattle.rt_exprs.specs.Sights.{Sight}
 use Rattle.rt_exprs.specs.Modes.{Want}
 use Rattle.rt_exprs.specs.Names.{find}
 use Rattle.rt_exprs.specs.Operands.{place, Found}
@@ -28,7 +28,7 @@ use Rattle.rt_meaning_sound.proofs.Operands.{IsSeen, RecordSeen, record_seen, Ta
 use Rattle.rt_meaning_sound.proofs.Short.{word_below}
 use Rattle.rt_meaning_sound.proofs.Words.{number_words, chain_words, val_words, monadic_words, dyadic_words, apply_words, links_words}
 
-module _ (s : Names) (c : Scope) (k : Started) (short : AllShort c) (locals : LocalsSeen s k) where
+module _ (s : Sight) (c : Scope) (k : Started) (short : AllShort c) (locals : LocalsSeen s k) where
   mutual
     pub is_seen : {e : Expr} {g : Found} → IsBy s e g → words_in_expr e ≡ true → IsSeen c k g.is
     is_seen {e = e} (f.is_number {n = n} {at = at} o) w = word_below n (sym (number_words e n at o) ∙ w)

@@ -35,7 +35,8 @@ use Rattle.rt_exprs.specs.Judging.{alone, target, val_target}
 use Rattle.rt_tree.specs.Statements.{starts_at_zero, call_tree, assigned_tree, step_tree, tested}
 use Rattle.rt_check_bodies.specs.declared.tally.Tally.{Tally}
 use Rattle.rt_check_bodies.specs.Parts.{noted_if, noted_known, found_or, value_or, stat_or, return_or, test_or, label_or, labels_in}
-use Rattle.rt_check_bodies.specs.Sights.{Sight, scope_of, value_in, assigning, assigned_in, assignment_in, val_assignment_in, call_in, test_in, label_in, label_by}
+use Rattle.rt_exprs.specs.Sights.{Sight}
+use Rattle.rt_check_bodies.specs.Sights.{value_in, assigning, assigned_in, assignment_in, val_assignment_in, call_in, test_in, label_in, label_by}
 use Rattle.rt_check_bodies.specs.declared.answer.Answer.{Answer}
 use Rattle.rt_check_bodies.specs.declared.answer.Answer.TheVariants as answer
 use Rattle.rt_check_bodies.specs.Statements.{JudgedStat, int_in, any_int_in, goto, switch, returned, return_of}
@@ -129,7 +130,7 @@ label_is at v place (Some (meaning.Svc j m)) k h e = no_svc (j == 0) e where
 label_is at v place (Some _) k h e = absurd cc
 
 label_named : (at : Sets) (c : Scope) (v : Started) (s : Sight) (n : Ident) (k : ℕ) → Sees at c v s → label_in s n ≡ Ok k → LabelNamed any_name at v k
-label_named at c v s n k h e = label_is at v n.at (find (scope_of s) n.name) k (λ m q. is_seen at c v s h n.name m q) e
+label_named at c v s n k h e = label_is at v n.at (find s n.name) k (λ m q. is_seen at c v s h n.name m q) e
 
 -- the labels of a SWITCH, behind those so far
 record LabelsFound (s : Sight) (done : List ℕ) (ns : List Ident) (t : Tally) : Type 0 where
@@ -186,14 +187,14 @@ module _ (c : Scope) (a : Around c) where
   pub call_good : (h : Chain) → words_in_chain h ≡ true → StatGood (λ s. stat_or (call_in s h)) 0
   call_good h w = found_good (λ s. call_in s h)
       (λ at v s k x e.
-      let z = bound (alone (scope_of s) h) (λ y. Ok (stats.Call y)) x e in
+      let z = bound (alone s h) (λ y. Ok (stats.Call y)) x e in
       subst (λ (y : Stat). StmtNamed any_name at v (stat_of c y)) (ok_is (stats.Call z.value) x (Ok (stats.Call z.value)) refl z.gives)
       (rw made_call (call_named at v (valued c z.value) (call_judged c a at v s k h z.value w z.is))))
 
   pub assign_good : (h : Chain) (e : Expr) → words_in_chain h && words_in_expr e ≡ true → StatGood (λ s. stat_or (assignment_in s h e)) 0
   assign_good h e w = found_good (λ s. assignment_in s h e)
       (λ at v s k x q.
-      let z = assigned_by s (target (scope_of s) h) e x q in
+      let z = assigned_by s (target s h) e x q in
       subst (λ (w : Stat). StmtNamed any_name at v (stat_of c w)) z.made
       (rw made_assign (assigned_named at v (placed c z.to) (valued c z.value).tree (target_judged c a at v s k h (z.to, z.mode) (left_of (words_in_chain h) (words_in_expr e) w) z.is)
       (value_judged c a at v s k e z.mode z.value (right_of (words_in_chain h) (words_in_expr e) w) z.gives))))
@@ -201,7 +202,7 @@ module _ (c : Scope) (a : Around c) where
   pub assign_val_good : (place : At) (h : Chain) (e : Expr) → words_in_chain h && words_in_expr e ≡ true → StatGood (λ s. stat_or (val_assignment_in s place h e)) 0
   assign_val_good place h e w = found_good (λ s. val_assignment_in s place h e)
       (λ at v s k x q.
-      let z = assigned_by s (val_target (scope_of s) place h) e x q in
+      let z = assigned_by s (val_target s place h) e x q in
       subst (λ (w : Stat). StmtNamed any_name at v (stat_of c w)) z.made
       (rw made_assign (assigned_named at v (placed c z.to) (valued c z.value).tree (val_judged c a at v s k place h (z.to, z.mode) (left_of (words_in_chain h) (words_in_expr e) w) z.is)
       (value_judged c a at v s k e z.mode z.value (right_of (words_in_chain h) (words_in_expr e) w) z.gives))))

@@ -26,14 +26,15 @@ use Rattle.rt_tree.specs.Statements.{starts_at_zero, start_tree, starts_tree, br
 use Rattle.rt_work_state.specs.Items.{Again, TurnFor, TurnTo}
 use Rattle.rt_check_bodies.specs.declared.tally.Tally.{Tally}
 use Rattle.rt_check_bodies.specs.Parts.{next_local, three_locals, test_or}
-use Rattle.rt_check_bodies.specs.Sights.{Sight, within, test_in}
+use Rattle.rt_exprs.specs.Sights.{Sight, within}
+use Rattle.rt_check_bodies.specs.Sights.{test_in}
 use Rattle.rt_check_bodies.specs.declared.answer.Answer.{Answer}
 use Rattle.rt_check_bodies.specs.declared.plain.Bounds.{Bounds}
 use Rattle.rt_check_bodies.specs.Statements as spec
 use Rattle.rt_check_bodies.specs.Statements.{Line, Declared, JudgedBody, JudgedBranch, before, declarations, branches, sequence, bounds_in, variable_of, for_loop, to_loop, int_in, any_int_in}
 use Rattle.rt_bricks_laws.specs.Bodies.{sum, all}
 use Rattle.rt_check_bodies_laws.proofs.Growing.{Pre, pre_then, grew_same, grew_then, Growing, BranchesGrow, grow_found, grow_declarations, grow_sequence, grow_branches, grow_for, grow_to}
-use Rattle.rt_check_bodies_laws.proofs.Sequences.{one_longer, pre_length, pre_get, small_rest, Fine, fine_before}
+use Rattle.rt_check_bodies_laws.proofs.Sequences.{one_longer, pre_length, pre_get, Fine, fine_before}
 use Rattle.rt_bricks_laws.specs.Numbers.{words_in_expr, words_in_any, words_in_cond, words_in_locals, words_in_control}
 use Rattle.rt_check_bodies_laws.proofs.Made.{stat_of, branch_of, made_block, made_while, made_to, made_for, made_if, made_else, made_body, made_branch}
 use Rattle.rt_bricks_laws.proofs.AllLists.{left_of, right_of}
@@ -117,8 +118,7 @@ module _ (c : Scope) (a : Around c) where
   loop_there t f =
       let x : List Made_local = t.locals ++ made.Loop ∷ [] in
       let one : Pre x c.locals = pre_then (record { more = made.Loop ∷ made.Loop ∷ []; is = append_assoc x (made.Loop ∷ []) (made.Loop ∷ []) }) f.known in
-      let number : next_local t ≡ length t.locals = small_rest (length t.locals) (omega (arith, a.small, pre_length one, one_longer t.locals made.Loop)) in
-      ap (slice_get c.locals) number ∙ pre_get t.locals made.Loop c.locals one
+      pre_get t.locals made.Loop c.locals one
 
   pub to_good : (e : Expr) (xs : List Line) (ns : List ℕ) → words_in_expr e ≡ true → AllGood c xs ns → StatGood c a (λ s. to_loop s e xs) (sum ns)
   to_good e xs ns w h = record {

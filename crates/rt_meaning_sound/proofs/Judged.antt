@@ -17,7 +17,8 @@ use Rattle.rt_exprs.proofs.Judged.{fit_holds}
 use Rattle.rt_exprs.proofs.Others.{target_holds, val_holds, call_holds, test_holds}
 use Rattle.rt_tree.specs.Modules.{local_stands}
 use Rattle.rt_tree.specs.Statements.{tested}
-use Rattle.rt_check_bodies.specs.Sights.{Sight, scope_of, value_in, test_in}
+use Rattle.rt_exprs.specs.Sights.{Sight}
+use Rattle.rt_check_bodies.specs.Sights.{value_in, test_in}
 use Rattle.rt_bricks_laws.specs.Numbers.{words_in_expr, words_in_chain, words_in_cond}
 use Rattle.rt_meaning_laws.specs.Trees.{Started}
 use Rattle.rt_meaning_laws.specs.Named.{any_name, TermNamed, CondNamed}
@@ -37,16 +38,16 @@ pub record Around (c : Scope) : Type 0 where
 module _ (c : Scope) (a : Around c) (at : Sets) (v : Started) (s : Sight) (k : Sees at c v s) where
   pub value_judged : (e : Expr) (m : Mode) (x : Value) → words_in_expr e ≡ true → value_in s e m ≡ Ok x → TermNamed any_name v (valued c x).tree
   value_judged e m x w h =
-      (fits_seen (scope_of s) c v a.short (locals_seen at c v s k) (fit_holds (scope_of s) e (want m) x h) w).tree
+      (fits_seen s c v a.short (locals_seen at c v s k) (fit_holds s e (want m) x h) w).tree
 
-  pub target_judged : (h : Chain) (x : Place × Mode) → words_in_chain h ≡ true → target (scope_of s) h ≡ Ok (Some x.0, x.1) → SpotNamed v (placed c x.0).tree
-  target_judged h x w e = targets_named (scope_of s) c v a.short (locals_seen at c v s k) (agrees at c v s k) (target_holds (scope_of s) h (Some x.0, x.1) e) w
+  pub target_judged : (h : Chain) (x : Place × Mode) → words_in_chain h ≡ true → target s h ≡ Ok (Some x.0, x.1) → SpotNamed v (placed c x.0).tree
+  target_judged h x w e = targets_named s c v a.short (locals_seen at c v s k) (agrees at c v s k) (target_holds s h (Some x.0, x.1) e) w
 
-  pub val_judged : (place : At) (h : Chain) (x : Place × Mode) → words_in_chain h ≡ true → val_target (scope_of s) place h ≡ Ok (Some x.0, x.1) → SpotNamed v (placed c x.0).tree
-  val_judged place h x w e = val_targets_named (scope_of s) c v a.short (locals_seen at c v s k) (agrees at c v s k) (val_holds (scope_of s) place h (Some x.0, x.1) e) w
+  pub val_judged : (place : At) (h : Chain) (x : Place × Mode) → words_in_chain h ≡ true → val_target s place h ≡ Ok (Some x.0, x.1) → SpotNamed v (placed c x.0).tree
+  val_judged place h x w e = val_targets_named s c v a.short (locals_seen at c v s k) (agrees at c v s k) (val_holds s place h (Some x.0, x.1) e) w
 
-  pub call_judged : (h : Chain) (x : Value) → words_in_chain h ≡ true → alone (scope_of s) h ≡ Ok x → TermNamed any_name v (valued c x).tree
-  call_judged h x w e = (alone_seen (scope_of s) c v a.short (locals_seen at c v s k) (call_holds (scope_of s) h x e) w).tree
+  pub call_judged : (h : Chain) (x : Value) → words_in_chain h ≡ true → alone s h ≡ Ok x → TermNamed any_name v (valued c x).tree
+  call_judged h x w e = (alone_seen s c v a.short (locals_seen at c v s k) (call_holds s h x e) w).tree
 
   pub test_judged : (d : Cond) (t : Test) → words_in_cond d ≡ true → test_in s d ≡ Ok t → CondNamed any_name v (tested c t).tree
-  test_judged d t w e = test_named (scope_of s) c v a.short (locals_seen at c v s k) (test_holds (scope_of s) d t e) w
+  test_judged d t w e = test_named s c v a.short (locals_seen at c v s k) (test_holds s d t e) w

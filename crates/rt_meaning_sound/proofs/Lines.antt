@@ -10,11 +10,11 @@ use Rattle.rt_exprs.specs.declared.scope.Meaning.TheVariants as meaning
 use Rattle.rt_tree.specs.Statements.{marks, labelled_tree, sequence_tree}
 use Rattle.rt_check_bodies.specs.declared.tally.Tally.{Tally}
 use Rattle.rt_check_bodies.specs.Parts.{label_more, labels_more, numbers_from, behind as number_behind}
-use Rattle.rt_check_bodies.specs.Sights.{Names, Sight, holds, within}
+use Rattle.rt_exprs.specs.Sights.{Names, Sight, holds, within}
 use Rattle.rt_check_bodies.specs.Statements.{Line, labels_of, labels_at, labelled, in_order, sequence}
 use Rattle.rt_bricks_laws.specs.Bodies.{sum}
 use Rattle.rt_check_bodies_laws.proofs.Growing.{LineGrows, LinesGrow, grow_order}
-use Rattle.rt_check_bodies_laws.proofs.Sequences.{small_rest, Fine, fine_before}
+use Rattle.rt_check_bodies_laws.proofs.Sequences.{Fine, fine_before}
 use Rattle.rt_check_bodies_laws.proofs.Made.{stat_of, line_of, made_line}
 use Rattle.rt_meaning_laws.specs.Trees.{Started, Within, behind}
 use Rattle.rt_meaning_laws.specs.Named.{any_name, StmtNamed, SeqNamed}
@@ -55,7 +55,7 @@ module _ (at : Sets) (v : Started) where
 
 -- the number behind a label
 next_number : (l : Names) (n : Ident) (t : Tally) → t.labels + 1 < 65536 → (label_more l n t).1.labels ≡ suc t.labels
-next_number l n t b = ap number_behind (noted_labels (holds l n.name) _ t) ∙ small_rest (t.labels + 1) b ∙ omega arith
+next_number l n t b = ap number_behind (noted_labels (holds l n.name) _ t) ∙ omega arith
 
 labels_count : (l : Names) (ns : List Ident) (t : Tally) → t.labels + length ns < 65536 → (labels_more l ns t).1.labels ≡ t.labels + length ns
 labels_count l [] t b = omega arith
@@ -97,7 +97,7 @@ module _ (at : Sets) (c : Scope) (v : Started) (first count : ℕ) (small : firs
 numbers_are : (done : List ℕ) (k : ℕ) (ns : List Ident) → k + length ns < 65536 → ((numbers_from done k ns).0 ≡ done ++ up_from k (length ns)) × ((numbers_from done k ns).1 ≡ k + length ns)
 numbers_are done k [] h = (sym (append-nil done), omega arith)
 numbers_are done k (n ∷ ns) h =
-    let next : number_behind k ≡ suc k = small_rest (k + 1) (omega (arith, h)) ∙ omega arith in
+    let next : number_behind k ≡ suc k = omega arith in
     let go = numbers_are (done ++ k ∷ []) (suc k) ns (omega (arith, h)) in
     let moved : numbers_from (done ++ k ∷ []) (number_behind k) ns ≡ numbers_from (done ++ k ∷ []) (suc k) ns = ap (λ (z : ℕ). numbers_from (done ++ k ∷ []) z ns) next in
     (ap (λ z. z.0) moved ∙ go.0 ∙ append_assoc done (k ∷ []) (up_from (suc k) (length ns)), ap (λ z. z.1) moved ∙ go.1 ∙ omega arith)

@@ -21,12 +21,13 @@ use Rattle.rt_exprs.specs.Outcomes.{Outcome}
 use Rattle.rt_tree.specs.Statements.{starts_at_zero, start_tree, starts_tree}
 use Rattle.rt_check_bodies.specs.declared.tally.Tally.{Tally}
 use Rattle.rt_check_bodies.specs.Parts.{noted_if, next_local, mode_or}
-use Rattle.rt_check_bodies.specs.Sights.{Sight, holds, innermost, value_in, mode_in, alone_in}
+use Rattle.rt_exprs.specs.Sights.{Sight, holds, innermost}
+use Rattle.rt_check_bodies.specs.Sights.{value_in, mode_in, alone_in}
 use Rattle.rt_check_bodies.specs.Statements.{Declared, start_alone, start_in, local_fit, local_more, locals_more, line_more, declarations}
 use Rattle.rt_bricks_laws.specs.Bodies.{all}
 use Rattle.rt_check_bodies_laws.proofs.Accepted.{local_value}
 use Rattle.rt_check_bodies_laws.proofs.Growing.{Pre, grow_placed, grow_locals, grow_declarations}
-use Rattle.rt_check_bodies_laws.proofs.Sequences.{one_is_there, one_longer, pre_length, pre_get, small_rest, Fine, fine_before}
+use Rattle.rt_check_bodies_laws.proofs.Sequences.{one_is_there, one_longer, pre_length, pre_get, Fine, fine_before}
 use Rattle.rt_bricks_laws.specs.Numbers.{words_in_any, words_in_mode, words_in_local, words_in_locals}
 use Rattle.rt_check_bodies_laws.proofs.Locals.{noted_locals}
 use Rattle.rt_bricks_laws.proofs.AllLists.{left_of, right_of}
@@ -131,11 +132,9 @@ module _ (c : Scope) (a : Around c) where
       let i : ℕ = next_local u.1 in
       let here : (local_fit m d n t).1.locals ≡ u.1.locals ++ made.Variable m ∷ [] = ap (λ (l : List Made). l ++ made.Variable m ∷ []) (noted_locals (holds (innermost d.sight.levels) n.name.name) (fault.DeclaredTwice n.name.at) u.1) in
       let known : Pre (u.1.locals ++ made.Variable m ∷ []) c.locals = subst (λ (l : List Made). Pre l c.locals) here f.known in
-      let number : i ≡ length u.1.locals = small_rest (length u.1.locals) (omega (arith, a.small, pre_length known, one_longer u.1.locals (made.Variable m))) in
-      let there : slice_get c.locals (length u.1.locals) ≡ Some (made.Variable m) = pre_get u.1.locals (made.Variable m) c.locals known in
-      let at_number : slice_get c.locals i ≡ Some (made.Variable m) = ap (slice_get c.locals) number ∙ there in
+      let there : slice_get c.locals i ≡ Some (made.Variable m) = pre_get u.1.locals (made.Variable m) c.locals known in
       let fine : Fine c u.1 = fine_before c (grow_placed i m u.0 d n u.1) f in
-      let go = start_made d.sight n.name m n.start t v i w fine.none at_number z in
+      let go = start_made d.sight n.name m n.start t v i w fine.none there z in
       record {
         starts = record { local = i; start = u.0 } ∷ [];
         is = refl;
@@ -143,7 +142,7 @@ module _ (c : Scope) (a : Around c) where
         after = go.after;
         more = go.more;
         named = λ at q k p. go.named at q k p;
-        sees = λ at k. sees_named at c go.after d.sight n.name.name (meaning.Local i m) (sees_more at c v go.after d.sight go.more k) ((at_number, local_value c a.small a.standing (length u.1.locals) m there), go.here);
+        sees = λ at k. sees_named at c go.after d.sight n.name.name (meaning.Local i m) (sees_more at c v go.after d.sight go.more k) ((there, local_value c a.small a.standing (length u.1.locals) m there), go.here);
       }
 
   locals_made : (m : Outcome Mode) (d : Declared) (ns : List Local) (t : Tally) (v : Started) → all (map words_in_local ns) ≡ true → Fine c (locals_more m d ns t).1 → Zeroed c v → DeclaredMade v d t (locals_more m d ns t)

@@ -17,8 +17,7 @@ use Rattle.rt_exprs.specs.Names.{find}
 use Rattle.rt_pieces.specs.declared.item.Item.{Item}
 use Rattle.rt_check_declared.specs.declared.site.Site.TheVariants as site
 use Rattle.rt_check_declared.specs.Written.{Names}
-use Rattle.rt_check_bodies.specs.Sights.{Sight}
-use Rattle.rt_check_bodies.specs.Sights.{scope_of as names_of}
+use Rattle.rt_exprs.specs.Sights.{Sight}
 use Rattle.rt_check_bodies.specs.Procedures.{procedure, faults, nothing_yet}
 use Rattle.rt_check_declared.specs.Names.{scope}
 use Rattle.rt_check_declared.specs.Names.{bricks_in as brick_count}
@@ -83,7 +82,7 @@ module _ (items : List Item) (m : Module) (text : IsText items m) (fine : IsFaul
   known : AreRecords n names
   known = modes_are_records ds
 
-  same : SameModes names (find (names_of s))
+  same : SameModes names (find s)
   same = same_modes (headings ds) (scope ds) (scope_once ds)
 
   name_records : NamesRecords n s

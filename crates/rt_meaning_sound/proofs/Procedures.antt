@@ -26,7 +26,8 @@ use Rattle.rt_exprs_laws.specs.Agreeing.{IsThere}
 use Rattle.rt_work_state.specs.Items.{Leave}
 use Rattle.rt_check_bodies.specs.declared.tally.Tally.{Tally}
 use Rattle.rt_check_bodies.specs.Parts.{noted_if, next_local, mode_or}
-use Rattle.rt_check_bodies.specs.Sights.{Names, Sight, holds, within, mode_in}
+use Rattle.rt_exprs.specs.Sights.{Names, Sight, holds, within}
+use Rattle.rt_check_bodies.specs.Sights.{mode_in}
 use Rattle.rt_check_bodies.specs.declared.answer.Answer.{Answer}
 use Rattle.rt_check_bodies.specs.Procedures.{named, group, parameters, answer_in, is_wanted, closed_at, nothing_yet, procedure, faults}
 use Rattle.rt_check_bodies.specs.Statements as spec
@@ -34,7 +35,7 @@ use Rattle.rt_check_bodies_laws.specs.Held.{Holds, LabelSeen, LevelHolds, Levels
 use Rattle.rt_check_bodies_laws.proofs.Accepted.{local_value}
 use Rattle.rt_check_bodies_laws.proofs.Brick.{grow_parameters, grow_answer, parameters_fit}
 use Rattle.rt_check_bodies_laws.proofs.Growing.{pre_same, Grew, grew_same, grew_then, Growing}
-use Rattle.rt_check_bodies_laws.proofs.Sequences.{one_longer, pre_length, pre_get, small_rest, Fine, fine_before}
+use Rattle.rt_check_bodies_laws.proofs.Sequences.{one_longer, pre_length, pre_get, Fine, fine_before}
 use Rattle.rt_check_bodies_laws.proofs.Locals.{noted_locals}
 use Rattle.rt_bricks_laws.proofs.AllLists.{or_left, or_right, length_mapped}
 use Rattle.rt_meaning_laws.specs.Trees.{Started, mode_of_local}
@@ -75,9 +76,8 @@ module _ (at : Sets) (c : Scope) (small : length c.locals < 65536) (standing : l
       let here : (named l n (Ok m) t).1.locals ≡ t.locals ++ made.Variable m ∷ [] = ap (λ (x : List Made). x ++ made.Variable m ∷ []) (noted_locals (holds l n.name) (fault.DeclaredTwice n.at) t) in
       let there = pre_get t.locals (made.Variable m) c.locals (record { more = f.known.more; is = f.known.is ∙ ap (λ (x : List Made). x ++ f.known.more) here }) in
       let longer : length (named l n (Ok m) t).1.locals ≡ suc (length t.locals) = ap length here ∙ one_longer t.locals (made.Variable m) in
-      let number : next_local t ≡ length t.locals = small_rest (length t.locals) (omega (arith, small, pre_length f.known, longer)) in
       declared_has (IsSeen at c v) n.name (meaning.Local (next_local t) m) l h
-      ((ap (slice_get c.locals) number ∙ there, local_value c small standing (length t.locals) m there), firsts (next_local t) (omega (arith, number, longer, b)))
+      ((there, local_value c small standing (length t.locals) m there), firsts (next_local t) (omega (arith, longer, b)))
 
   group_seen : (m : Outcome Mode) (l : Names) (ns : List Ident) (t : Tally) → LevelHas (IsSeen at c v) l → Fine c (group m l ns t).1 → length (group m l ns t).1.locals ≤ count → LevelHas (IsSeen at c v) (group m l ns t).0
   group_seen m l [] t h f b = h

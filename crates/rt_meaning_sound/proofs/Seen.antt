@@ -12,7 +12,7 @@ use Rattle.rt_exprs.specs.declared.scope.Meaning.TheVariants as meaning
 use Rattle.rt_exprs.specs.Names.{find, find_in}
 use Rattle.rt_exprs.specs.Operands.{or_else}
 use Rattle.rt_exprs_laws.specs.Agreeing.{Agree, IsThere, HasItems}
-use Rattle.rt_check_bodies.specs.Sights.{Names, Sight, holds, declared, within, innermost, with_name, scope_of, set_of, level_of, lent_name}
+use Rattle.rt_exprs.specs.Sights.{Names, Sight, holds, declared, within, innermost, with_name}
 use Rattle.rt_meaning_laws.specs.Trees.{Started, Within}
 use Rattle.rt_meaning_laws.proofs.Locals.{within_all}
 use Rattle.rt_meaning_sound.specs.Seen.{LocalSeen, LocalsSeen}
@@ -56,22 +56,22 @@ module _ (P : Meaning → Type 0) where
   by_name x o rest true h go q = subst P (some_is x o q) h
   by_name x o rest false h go q = go q
 
-  looked_up : (n : List ℕ) (l : Names) (m : Meaning) → LevelHas l → lookup (λ k. bytes_eq n k.now) (map lent_name l) ≡ Some m → P m
+  looked_up : (n : List ℕ) (l : Names) (m : Meaning) → LevelHas l → lookup (bytes_eq n) l ≡ Some m → P m
   looked_up n [] m h e = absurd cc
-  looked_up n (x ∷ xs) m h e = by_name x.1 m (lookup (λ k. bytes_eq n k.now) (map lent_name xs)) (bytes_eq n x.0) h.0 (looked_up n xs m h.1) e
+  looked_up n (x ∷ xs) m h e = by_name x.1 m (lookup (bytes_eq n) xs) (bytes_eq n x.0) h.0 (looked_up n xs m h.1) e
 
-  found_split : (n : List ℕ) (l : Names) (ls : List Names) (m : Meaning) (o : Option Meaning) → lookup (λ k. bytes_eq n k.now) (map lent_name l) ≡ o → LevelHas l
-      → or_else o (find_in (map level_of ls) n) ≡ Some m → (find_in (map level_of ls) n ≡ Some m → P m) → P m
+  found_split : (n : List ℕ) (l : Names) (ls : List Names) (m : Meaning) (o : Option Meaning) → lookup (bytes_eq n) l ≡ o → LevelHas l
+      → or_else o (find_in ls n) ≡ Some m → (find_in ls n ≡ Some m → P m) → P m
   found_split n l ls m (Some x) p h e go = looked_up n l m h (p ∙ e)
   found_split n l ls m None p h e go = go e
 
-  found_in : (n : List ℕ) (ls : List Names) (m : Meaning) → LevelsHave ls → find_in (map level_of ls) n ≡ Some m → P m
+  found_in : (n : List ℕ) (ls : List Names) (m : Meaning) → LevelsHave ls → find_in ls n ≡ Some m → P m
   unfolding find_in
   found_in n [] m h e = absurd cc
-  found_in n (l ∷ ls) m h e = found_split n l ls m (lookup (λ k. bytes_eq n k.now) (map lent_name l)) refl h.0 e (found_in n ls m h.1)
+  found_in n (l ∷ ls) m h e = found_split n l ls m (lookup (bytes_eq n) l) refl h.0 e (found_in n ls m h.1)
 
   -- what a name stands for is one of these
-  pub found_has : (s : Sight) (n : List ℕ) (m : Meaning) → LevelsHave s.levels → find (scope_of s) n ≡ Some m → P m
+  pub found_has : (s : Sight) (n : List ℕ) (m : Meaning) → LevelsHave s.levels → find s n ≡ Some m → P m
   found_has s n m h e = found_in n s.levels m h e
 
 level_so : (P Q : Meaning → Type 0) → ((m : Meaning) → P m → Q m) → (l : Names) → LevelHas P l → LevelHas Q l
@@ -112,7 +112,7 @@ module _ (at : Sets) where
     pub record Sees (v : Started) (s : Sight) : Type 0 where
       pub records : s.records ≡ c.records
       pub fields : (r : ℕ) (d : RecordDef) → slice_get c.records r ≡ Some d → HasItems d
-      pub strings : length (set_of s.strings).keys ≡ c.strings
+      pub strings : length s.strings ≡ c.strings
       pub levels : LevelsHave (IsSeen v) s.levels
 
     pub sees_within : (v : Started) (s : Sight) (l : Names) → Sees v s → LevelHas (IsSeen v) l → Sees v (within l s)
@@ -136,10 +136,10 @@ module _ (at : Sets) where
       levels = levels_so (IsSeen v) (IsSeen w) (λ m e. (e.0, more_seen v w k m e.1)) s.levels h.levels;
     }
 
-    pub agrees : (v : Started) (s : Sight) → Sees v s → Agree (scope_of s) c
+    pub agrees : (v : Started) (s : Sight) → Sees v s → Agree s c
     agrees v s h = record { records = h.records; fields = h.fields; strings = h.strings; names = λ n m e. (found_has (IsSeen v) s n m h.levels e).0 }
 
-    pub is_seen : (v : Started) (s : Sight) → Sees v s → (n : List ℕ) (m : Meaning) → find (scope_of s) n ≡ Some m → MeaningSeen v m
+    pub is_seen : (v : Started) (s : Sight) → Sees v s → (n : List ℕ) (m : Meaning) → find s n ≡ Some m → MeaningSeen v m
     is_seen v s h n m e = (found_has (IsSeen v) s n m h.levels e).1
 
     local_seen : (v : Started) (m : Meaning) → MeaningSeen v m → LocalSeen v m
@@ -156,5 +156,5 @@ module _ (at : Sets) where
     local_seen v meaning.UnknownProc e = tt
     local_seen v meaning.Unknown e = tt
 
-    pub locals_seen : (v : Started) (s : Sight) → Sees v s → LocalsSeen (scope_of s) v
+    pub locals_seen : (v : Started) (s : Sight) → Sees v s → LocalsSeen s v
     locals_seen v s h n m e = local_seen v m (is_seen v s h n m e)

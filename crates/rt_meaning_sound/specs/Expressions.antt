@@ -11,7 +11,7 @@ use Rattle.rt_tree_nodes.specs.declared.value.Place.{Place}
 use Rattle.rt_tree_nodes.specs.declared.value.Value.{Value}
 use Rattle.rt_tree_nodes.specs.Scopes.{Scope}
 use Rattle.rt_tree_nodes.specs.Typing.{placed, valued}
-use Rattle.rt_exprs.specs.declared.scope.Scope.{Scope as Names}
+use Rattle.rt_exprs.specs.Sights.{Sight}
 use Rattle.rt_exprs.specs.Fitting.{Fits, Assigns, AssignsVal, CallIs, TestIs}
 use Rattle.rt_tree.specs.Modules.{local_stands}
 use Rattle.rt_tree.specs.Statements.{tested}
@@ -25,26 +25,26 @@ use Rattle.rt_meaning_sound.specs.Short.{AllShort}
 
 -- the value that fits an expression where a mode is wanted
 abbrev pub ValuesAreSeen : Type 0
-ValuesAreSeen = (s : Names) (c : Scope) (k : Started) (e : Expr) (m : Mode) (x : Value) → AllShort c → LocalsSeen s k → words_in_expr e ≡ true → Fits s e m x
+ValuesAreSeen = (s : Sight) (c : Scope) (k : Started) (e : Expr) (m : Mode) (x : Value) → AllShort c → LocalsSeen s k → words_in_expr e ≡ true → Fits s e m x
     → TermNamed any_name k (valued c x).tree
 
 -- the place that a chain assigns, and the one that VAL and a chain assign
 abbrev pub TargetsAreSeen : Type 0
-TargetsAreSeen = (s : Names) (c : Scope) (k : Started) (h : Chain) (p : Place) (m : Mode) → Agree s c → AllShort c → LocalsSeen s k → words_in_chain h ≡ true → Assigns s h (p, m)
+TargetsAreSeen = (s : Sight) (c : Scope) (k : Started) (h : Chain) (p : Place) (m : Mode) → Agree s c → AllShort c → LocalsSeen s k → words_in_chain h ≡ true → Assigns s h (p, m)
     → SpotNamed k (placed c p).tree
 
 abbrev pub ValTargetsAreSeen : Type 0
-ValTargetsAreSeen = (s : Names) (c : Scope) (k : Started) (at : At) (h : Chain) (p : Place) (m : Mode) → Agree s c → AllShort c → LocalsSeen s k → words_in_chain h ≡ true
+ValTargetsAreSeen = (s : Sight) (c : Scope) (k : Started) (at : At) (h : Chain) (p : Place) (m : Mode) → Agree s c → AllShort c → LocalsSeen s k → words_in_chain h ≡ true
     → AssignsVal s at h (p, m) → SpotNamed k (placed c p).tree
 
 -- a call that stands alone
 abbrev pub CallsAreSeen : Type 0
-CallsAreSeen = (s : Names) (c : Scope) (k : Started) (h : Chain) (x : Value) → AllShort c → LocalsSeen s k → words_in_chain h ≡ true → CallIs s h x
+CallsAreSeen = (s : Sight) (c : Scope) (k : Started) (h : Chain) (x : Value) → AllShort c → LocalsSeen s k → words_in_chain h ≡ true → CallIs s h x
     → TermNamed any_name k (valued c x).tree
 
 -- the test that a condition is
 abbrev pub TestsAreSeen : Type 0
-TestsAreSeen = (s : Names) (c : Scope) (k : Started) (d : Cond) (t : Test) → AllShort c → LocalsSeen s k → words_in_cond d ≡ true → TestIs s d t
+TestsAreSeen = (s : Sight) (c : Scope) (k : Started) (d : Cond) (t : Test) → AllShort c → LocalsSeen s k → words_in_cond d ≡ true → TestIs s d t
     → CondNamed any_name k (tested c t).tree
 
 -- The lengths in the modes of a scope are words, where its modes may stand, those of its parameters and locals among them.

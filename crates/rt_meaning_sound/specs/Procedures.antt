@@ -15,7 +15,7 @@ use Rattle.rt_tree_nodes.specs.declared.brick.ProcBody.{ProcBody}
 use Rattle.rt_tree_nodes.specs.Scopes.{scope_of, with_locals}
 use Rattle.rt_tree.specs.Modules.{local_stands}
 use Rattle.rt_tree.specs.Statements.{Sight as Seen}
-use Rattle.rt_check_bodies.specs.Sights.{Sight}
+use Rattle.rt_exprs.specs.Sights.{Sight}
 use Rattle.rt_check_bodies.specs.Procedures.{parameters, nothing_yet, procedure, faults}
 use Rattle.rt_check_bodies_laws.specs.Held.{Holds}
 use Rattle.rt_bricks_laws.specs.Bodies.{labels_in_body}

@@ -3,7 +3,7 @@ use Rattle.std.specs.Prelude.{◌≡◌, ℕ, true, List, Some}
 use Rattle.rt_tree_nodes.specs.Typing.{Spot, OnLocal, OnPath, OnRow}
 use Rattle.rt_exprs.specs.declared.scope.Meaning.{Meaning}
 use Rattle.rt_exprs.specs.declared.scope.Meaning.TheVariants as meaning
-use Rattle.rt_exprs.specs.declared.scope.Scope.{Scope as Names}
+use Rattle.rt_exprs.specs.Sights.{Sight}
 use Rattle.rt_exprs.specs.Names.{find}
 use Rattle.rt_meaning_laws.specs.Trees.{Started}
 use Rattle.rt_meaning_laws.specs.Named.{any_name, PathNamed}
@@ -15,7 +15,7 @@ LocalSeen k (meaning.Loop i) = k i ≡ true
 LocalSeen k _ = Unit {0}
 
 -- so it is of each name that an expression may use
-abbrev pub LocalsSeen : Names → Started → Type 0
+abbrev pub LocalsSeen : Sight → Started → Type 0
 LocalsSeen s k = (name : List ℕ) (is : Meaning) → find s name ≡ Some is → LocalSeen k is
 
 -- A place that is assigned: the local needs no value before, and a row is no such place.

@@ -1,6 +1,5 @@
 use Rattle.std.proofs.Common.{ℕ, List, [], map, Ok, Err, sym, ap, ◌∙◌, subst}
 use Rattle.rt_bricks.specs.declared.tree.Declaration.{Declaration}
-use Rattle.rt_check_bodies.specs.Seen.{names_of}
 use Rattle.rt_check_module.specs.Tree.{filled, texts_from}
 use Rattle.rt_check.specs.Whole.{Refuses, StringsRise}
 use Rattle.rt_check.proofs.Finished.{AreParts, typed_with, answered}
@@ -10,7 +9,7 @@ use Rattle.rt_check.proofs.module.read_module.Goals as goal
 
 pub returns-in-Some-clause-fault : goal.returns-in-Some-clause-fault
 returns-in-Some-clause-fault c = λ rise.
-    let refused : Refuses c.args.source.now.declarations c.in-Some.fault = subst (λ (ds : List Declaration). Refuses ds c.in-Some.fault) c.as_slice-declarations.ensures (read_refuses c.as_slice-declarations.result.now c.in_ok-scene.scene.modes c.in_ok-scene.scene.sizes c.as_slice.result.now c.in_ok-scene.scene.bricks c.as_slice-2.result.now (names_of c.in_ok-scene.scene.level) c.in_ok-scene.scene.fault c.in_ok-inside.inside.fillings c.in_ok-inside.inside.fault
+    let refused : Refuses c.args.source.now.declarations c.in-Some.fault = subst (λ (ds : List Declaration). Refuses ds c.in-Some.fault) c.as_slice-declarations.ensures (read_refuses c.as_slice-declarations.result.now c.in_ok-scene.scene.modes c.in_ok-scene.scene.sizes c.as_slice.result.now c.in_ok-scene.scene.bricks c.as_slice-2.result.now c.in_ok-scene.scene.level c.in_ok-scene.scene.fault c.in_ok-inside.inside.fillings c.in_ok-inside.inside.fault
     c.as_slice.ensures c.as_slice-2.ensures c.in_ok-scene.ensures.records c.in_ok-scene.ensures.sizes c.in_ok-scene.ensures.bricks c.in_ok-scene.ensures.level c.in_ok-scene.ensures.fault c.in_ok-inside.ensures.fault c.is_none.result (fit_by c.in_ok-scene.scene.fault c.is_none.result c.is_none.ensures) c.in_ok-inside.ensures.fillings
     (subst StringsRise (sym c.as_slice-declarations.ensures) rise) c.in-Some.fault (sym c.either.ensures ∙ c.in-Some.is)) in
     given c.in-Some.fault (Refuses c.args.source.now.declarations c.in-Some.fault) refused
@@ -22,7 +21,7 @@ pub returns-in_ok-parts-in-None-clause-tree : goal.returns-in_ok-parts-in-None-c
 returns-in_ok-parts-in-None-clause-tree c = λ rise.
     let ds = c.as_slice-declarations.result.now in
     let texts = texts_from c.in_ok-scene.scene.modes.records [] c.in_ok-scene.scene.bricks ds in
-    let parts : AreParts ds c.in_ok-scene.scene.modes (filled c.in_ok-scene.scene.bricks c.in_ok-inside.inside.fillings) texts = read_parts c.as_slice-declarations.result.now c.in_ok-scene.scene.modes c.in_ok-scene.scene.sizes c.as_slice.result.now c.in_ok-scene.scene.bricks c.as_slice-2.result.now (names_of c.in_ok-scene.scene.level) c.in_ok-scene.scene.fault c.in_ok-inside.inside.fillings c.in_ok-inside.inside.fault
+    let parts : AreParts ds c.in_ok-scene.scene.modes (filled c.in_ok-scene.scene.bricks c.in_ok-inside.inside.fillings) texts = read_parts c.as_slice-declarations.result.now c.in_ok-scene.scene.modes c.in_ok-scene.scene.sizes c.as_slice.result.now c.in_ok-scene.scene.bricks c.as_slice-2.result.now c.in_ok-scene.scene.level c.in_ok-scene.scene.fault c.in_ok-inside.inside.fillings c.in_ok-inside.inside.fault
     c.as_slice.ensures c.as_slice-2.ensures c.in_ok-scene.ensures.records c.in_ok-scene.ensures.sizes c.in_ok-scene.ensures.bricks c.in_ok-scene.ensures.level c.in_ok-scene.ensures.fault c.in_ok-inside.ensures.fault c.is_none.result (fit_by c.in_ok-scene.scene.fault c.is_none.result c.is_none.ensures) c.in_ok-inside.ensures.fillings
     (subst StringsRise (sym c.as_slice-declarations.ensures) rise) (sym c.either.ensures ∙ c.in-None.is) in
     typed_with c.args.source.now c.in_ok-scene.scene.modes (filled c.in_ok-scene.scene.bricks c.in_ok-inside.inside.fillings) texts c.in_ok-parts-in-None.parts

@@ -1,5 +1,5 @@
 use Rattle.std.proofs.Common.{◌≡◌, drop}
-use Rattle.rt_check_bodies.specs.Sights.{outside}
+use Rattle.rt_exprs.specs.Sights.{outside}
 use Rattle.rt_check_bodies.specs.Statements as spec
 use Rattle.rt_check_bodies.proofs.locals.declarations.Given as goal
 

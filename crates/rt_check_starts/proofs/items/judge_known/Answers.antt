@@ -15,6 +15,6 @@ returns-in-Some c =
 pub returns-in-None : goal.returns-in-None
 returns-in-None c =
     let w : Written = written_in c.args.scope.now c.args.start.now in
-    let one : c.copies.result ≡ w.copies = c.copies.ensures ∙ sym (copies_seen c.args.scope.now.modes.now.records (find c.args.scope.now) c.args.scope.now.strings.now.keys c.args.start.now) in
+    let one : c.copies.result ≡ w.copies = c.copies.ensures ∙ sym (copies_seen c.args.scope.now.records (find c.args.scope.now) c.args.scope.now.strings c.args.start.now) in
     else_judged c.args.faults.now c.note_bad.new.faults c.judge-fits.new.faults (w.private c.args.mode.now) (bad_unless (w.fits c.args.mode.now && w.copies == 1) c.args.at) c.judge-fits.ensures.private c.in-None.is
     (c.note_bad.ensures ∙ ap (λ (b : Bool). with_faults c.args.faults.now (bad_unless (b && c.copies.result == 1) c.args.at)) c.judge-fits.ensures.fits ∙ ap (λ (n : ℕ). with_faults c.args.faults.now (bad_unless (w.fits c.args.mode.now && n == 1) c.args.at)) one)

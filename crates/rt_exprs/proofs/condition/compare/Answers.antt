@@ -1,6 +1,5 @@
 use Rattle.std.proofs.Common.{◌≡◌, Err, None, Option, option_map, sym, subst, ◌∙◌, ap}
 use Rattle.rt_exprs.specs.declared.fault.CheckFault.{CheckFault}
-use Rattle.rt_exprs.specs.declared.fault.CheckFault.TheVariants.{WrongMode}
 use Rattle.rt_exprs.specs.declared.operand.Wanted.{Wanted}
 use Rattle.rt_exprs.specs.Outcomes.{UnlessMemory}
 use Rattle.rt_exprs.specs.Judging as spec

@@ -1,7 +1,5 @@
-use Rattle.std.proofs.Common.{◌≡◌, ◌≤◌, min, map, length, refl, sym, ◌∙◌, ap, arith}
+use Rattle.std.proofs.Common.{◌≡◌, ◌≤◌, min, length, refl, arith}
 use Rattle.rt_exprs.specs.Judging as spec
-use Rattle.std.specs.Prelude.{Err}
-use Rattle.rt_exprs.specs.Outcomes.{UnlessMemory}
 use Rattle.rt_exprs.specs.Names.{find}
 use Rattle.rt_syntax_exprs.specs.declared.tree.Chain.{out-Chain}
 use Rattle.rt_exprs.proofs.Joins.{given}
@@ -44,7 +42,7 @@ all_alone-loop-expr-preserved t c =
     (c.by_itself.ensures (spec.judged c.args.scope.now c.expr-item.result) c.judge.ensures) c.sooner-first.ensures kept.2
 
 pub follow-returns-in-Dot : goal.follow-returns-in-Dot
-follow-returns-in-Dot t c = λ o h. rw (linked_dot c.args.scope.now c.args.link.now _ _ o c.in-Dot.is) (c.dot.ensures o h)
+follow-returns-in-Dot t c = λ o h. rw (linked_dot c.args.scope.now c.args.link.now _ _ o c.in-Dot.is, ← c.modes.ensures) (c.dot.ensures o h)
 
 pub follow-returns-in-Ok : goal.follow-returns-in-Ok
 follow-returns-in-Ok t c = λ o h. follow_apply c.args.scope.now c.args.link.now c.in-Apply.arguments c.as_slice-arguments.result.now c.in-Apply.at c.args.operand c.in-Ok.operand o c.apply.result c.in-Apply.is c.as_slice-arguments.ensures c.in-Ok.is h c.apply.ensures

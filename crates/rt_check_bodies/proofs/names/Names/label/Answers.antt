@@ -6,4 +6,4 @@ use Rattle.rt_check_bodies.specs.Sights as spec
 use Rattle.rt_check_bodies.proofs.names.Names.label.Goals as goal
 
 pub returns : goal.returns
-returns c = subst (λ (o : Option Meaning). Gives (λ k. k) c.label_by.result (spec.label_by c.args.name.now.at o)) (c.meaning.ensures ∙ ap (λ (n : List ℕ). find (spec.scope_of c.args.self.now) n) c.as_slice.ensures.bytes) c.label_by.ensures
+returns c = subst (λ (o : Option Meaning). Gives (λ k. k) c.label_by.result (spec.label_by c.args.name.now.at o)) (c.meaning.ensures ∙ ap (λ (n : List ℕ). find c.args.self.now n) c.as_slice.ensures.bytes) c.label_by.ensures

@@ -1,9 +1,7 @@
-use Rattle.std.proofs.Common.{subst}
-use Rattle.rt_check_bodies.specs.Sights.{Sight, scope_of}
-use Rattle.rt_check_bodies.specs.Seen.{Alike}
-use Rattle.rt_check_bodies.proofs.Levels.{alike_scope}
+use Rattle.std.proofs.Common.{List, ap, ◌∙◌}
+use Rattle.rt_exprs.specs.Sights.{Names}
 use Rattle.rt_check_bodies.proofs.names.Names.scope.Goals as goal
 
 pub returns : goal.returns
-returns c = subst (λ (s : Sight). Alike (record { modes = c.self.inside.modes; strings = c.self.inside.strings; levels = record { ref_ptr = c.as_slice.result.ref_ptr; now = c.as_slice.result.now } }) (scope_of s)) c.self.view_is
-    (alike_scope c.self.inside.modes c.self.inside.strings (record { ref_ptr = c.as_slice.result.ref_ptr; now = c.as_slice.result.now }) c.self.inside.levels.items c.as_slice.ensures.value)
+returns c =
+    c.new.ensures ∙ ap (λ (ls : List Names). record { records = c.self.inside.modes.now.records; strings = c.self.inside.strings.now.keys; levels = ls }) c.as_slice.ensures.value ∙ c.self.view_is

@@ -1,10 +1,4 @@
-use Rattle.std.proofs.Common.{subst}
-use Rattle.rt_tree_nodes.specs.declared.value.Value.{Value}
-use Rattle.rt_exprs.specs.Modes.{want}
-use Rattle.rt_exprs.specs.Outcomes.{Outcome, Gives}
-use Rattle.rt_check_bodies.specs.Sights.{scope_of}
-use Rattle.rt_check_bodies.proofs.Alike.{fitted_same}
 use Rattle.rt_check_bodies.proofs.names.Names.value.Goals as goal
 
 pub returns : goal.returns
-returns c = subst (λ (o : Outcome Value). Gives (λ v. v) c.fit.result o) (fitted_same c.scope.result (scope_of c.args.self.now) c.scope.ensures c.args.expr.now (want c.args.wanted.now)) c.fit.ensures.value
+returns c = rw c.scope.ensures at c.fit.ensures.value

@@ -1,6 +1,0 @@
-use Rattle.std.proofs.Common.{◌≡◌, drop}
-use Rattle.rt_exprs.specs.Names.{find_in}
-use Rattle.rt_exprs.proofs.names.find.Given as goal
-
-abbrev pub invariant-loop-level : goal.invariant-loop-level
-invariant-loop-level l = find_in (drop l.level-index l.scope.levels.now) l.name ≡ find_in l.scope.levels.now l.name
