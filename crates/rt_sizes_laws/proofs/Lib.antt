@@ -4,3 +4,5 @@ pub mod Lying
 pub mod Leading
 pub mod Sized
 pub mod Ringless
+mod Settled
+mod Contained

@@ -1,6 +1,6 @@
 -- A mode that may stand has a size unless a record of it contains itself: a way from record to record that is longer than the list
 -- of records comes back to where it was.
-use Rattle.std.proofs.Common.{◌≡◌, ℕ, zero, suc, ◌+◌, ◌*◌, ◌≤◌, ◌<◌, ◌⊎◌, inl, inr, Bool, true, false, List, [], ◌∷◌, length, replicate, take, map, Option, Some, None, option_map, slice_get, slice_set, refl, sym, ap, ◌∙◌, subst, arith}
+use Rattle.std.proofs.Common.{◌≡◌, ℕ, zero, suc, ◌+◌, ◌*◌, ◌≤◌, ◌<◌, inl, inr, Bool, true, false, List, [], ◌∷◌, length, replicate, take, map, Option, Some, None, option_map, slice_get, slice_set, refl, sym, ap, ◌∙◌, subst, arith}
 use Rattle.std.specs.List.{AllByRecursion}
 use Rattle.std.proofs.lemmas.Option.{slice_get_within}
 use Rattle.rt_modes.specs.declared.mode.Field.{Field}
@@ -19,6 +19,7 @@ use Rattle.rt_sizes.specs.Reaching.{unmarked}
 use Rattle.rt_sizes.specs.Sizes as layout
 use Rattle.rt_sizes.specs.Sizes.{Table, within, even, and_then, begins, fields_if, size, size_layer, field_begins, field_end, fields_end, record_layer, offset, offset_by}
 use Rattle.rt_sizes.proofs.Layers.{out_roll, size_at, some_is}
+use Rattle.rt_sizes.proofs.Reaching.{set_from, set_count, set_long, none_marked}
 use Rattle.rt_sizes_laws.specs.Laws.{AllKnown, AllStand, HasNoRing, HavePlaces, ModesHaveSizes, FieldsHavePlaces, NoRings}
 use Rattle.rt_sizes_laws.proofs.Alike.{fields_stand, known_fields}
 
@@ -85,34 +86,10 @@ module _ (f : ℕ → Option ℕ) where
 
 -- ---- marks
 
-set_from : (ms : List Bool) (s j : ℕ) → slice_get (slice_set ms s true) j ≡ Some true → (slice_get ms j ≡ Some true) ⊎ (j ≡ s)
-set_from [] s j e = inl e
-set_from (m ∷ ms) zero zero e = inr refl
-set_from (m ∷ ms) zero (suc j) e = inl e
-set_from (m ∷ ms) (suc s) zero e = inl e
-set_from (m ∷ ms) (suc s) (suc j) e = elim (set_from ms s j e) [ inl h ↦ inl h | inr h ↦ inr (ap suc h) ]
-
-set_count : (ms : List Bool) (s : ℕ) → slice_get ms s ≡ Some false → unmarked (slice_set ms s true) + 1 ≡ unmarked ms
-set_count [] s e = absurd cc
-set_count (false ∷ ms) zero e = omega arith
-set_count (true ∷ ms) zero e = absurd cc
-set_count (false ∷ ms) (suc s) e = let h = set_count ms s e in omega arith
-set_count (true ∷ ms) (suc s) e = set_count ms s e
-
-set_long : (ms : List Bool) (s : ℕ) → length (slice_set ms s true) ≡ length ms
-set_long [] s = refl
-set_long (m ∷ ms) zero = refl
-set_long (m ∷ ms) (suc s) = ap suc (set_long ms s)
-
 mark_there : (ms : List Bool) (k : ℕ) → k < length ms → (b : Bool) × (slice_get ms k ≡ Some b)
 mark_there [] k h = absurd (omega arith)
 mark_there (m ∷ ms) zero h = (m, refl)
 mark_there (m ∷ ms) (suc k) h = mark_there ms k (omega arith)
-
-none_marked : (n s : ℕ) → slice_get (replicate n false) s ≡ Some true → ⊥
-none_marked zero s e = cc
-none_marked (suc n) zero e = cc
-none_marked (suc n) (suc s) e = none_marked n s e
 
 long_replicate : (n : ℕ) → length (replicate n false) ≡ n
 long_replicate zero = refl

@@ -1,6 +1,7 @@
 //! The laws, as the contracts of functions that do nothing.
 
 ghost use Rattle.rt_sizes_laws.specs.Laws as law;
+ghost use Rattle.rt_sizes_laws.specs.Decided as decided;
 
 use rt_tree_laws::{full_data_open, full_modes_open};
 
@@ -43,4 +44,13 @@ pub fn modes_have_sizes()
     ensures fields { law.FieldsHavePlaces }
     ensures rings { law.NoRings }
     ensures known { law.WholeListsAreKnown }
+{}
+
+/// Of each mode it can be told whether it has a size, of fields whether they pass the greatest size and with which, which is
+/// one, and of two records whether the first contains the second.
+pub fn sizes_are_decided()
+    ensures sizes { decided.SizesAreDecided }
+    ensures passes { decided.PassesAreDecided }
+    ensures one { decided.OnePasses }
+    ensures rings { decided.RingsAreDecided }
 {}

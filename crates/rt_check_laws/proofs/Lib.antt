@@ -1,0 +1,4 @@
+mod Least
+mod Modules
+mod Known
+mod Modes
