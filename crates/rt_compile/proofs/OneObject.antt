@@ -5,6 +5,7 @@ use Rattle.rt_items.specs.Lets.{Reading, HaveOneReading}
 use Rattle.rt_modes.specs.declared.mode.ModeTable.{ModeTable}
 use Rattle.rt_bricks.specs.declared.tree.Module.{Module}
 use Rattle.rt_bricks.specs.Derives.{Derives}
+use Rattle.rt_sizes_laws.specs.Laws.{TablesTellOnce}
 use Rattle.rt_tree_nodes.specs.declared.brick.ModuleParts.{ModuleParts}
 use Rattle.rt_check_module.specs.Typed.{IsTyped}
 use Rattle.rt_check.specs.Laws.{OneTree}
@@ -46,7 +47,7 @@ parts_are o q a b c d e =
     ∙ ap (λ (x : List Compiled). made q.title q.records q.strings x o.taken) d
     ∙ ap (λ (x : List ℕ). made q.title q.records q.strings q.bricks x) e
 
-module _ (one_reading : HaveOneReading) (one_module : OneModule) (one_tree : OneTree) where
+module _ (one_reading : HaveOneReading) (one_module : OneModule) (one_tree : OneTree) (told : TablesTellOnce) where
   same_tree : (text : List ℕ) (t u : ModuleParts) → IsTree text t → IsTree text u → t ≡ u
   same_tree text t u a b =
       let s = a.is_source in
@@ -65,7 +66,7 @@ module _ (one_reading : HaveOneReading) (one_module : OneModule) (one_tree : One
 
   same_object : (p : ModuleParts) (o q : ObjectParts) → IsObjectOf p o → IsObjectOf p q → o ≡ q
   same_object p o q a b =
-      same_with b.layouts p o q (subst (λ (l : Layouts). IsObjectWith l p o) (one_layout p a.layouts b.layouts a.right b.right) a.object) b.object
+      same_with b.layouts p o q (subst (λ (l : Layouts). IsObjectWith l p o) (one_layout told p a.layouts b.layouts a.right b.right) a.object) b.object
 
   pub one_object : OneObject
   one_object text o q a b =
@@ -85,7 +86,7 @@ module _ (one_reading : HaveOneReading) (one_module : OneModule) (one_tree : One
 
   not_in_one : (p : ModuleParts) (o : ObjectParts) (name : List ℕ) → IsObjectOf p o → HasLongProc p name → ⊥
   not_in_one p o name a b =
-      not_both (intermediate b.layouts p) name (subst (λ (l : Layouts). AreShort (intermediate l p)) (one_layout p a.layouts b.layouts a.right b.right) a.object.short) b.long
+      not_both (intermediate b.layouts p) name (subst (λ (l : Layouts). AreShort (intermediate l p)) (one_layout told p a.layouts b.layouts a.right b.right) a.object.short) b.long
 
   pub none_with_long_code : NoneWithLongCode
   none_with_long_code text o name a b =
@@ -107,7 +108,7 @@ module _ (one_reading : HaveOneReading) (one_module : OneModule) (one_tree : One
 
   one_in_one : (p : ModuleParts) (name other : List ℕ) → HasLongProc p name → HasLongProc p other → name ≡ other
   one_in_one p name other a b =
-      one_long (intermediate b.layouts p) name other (subst (λ (l : Layouts). IsTooLong (intermediate l p) name) (one_layout p a.layouts b.layouts a.right b.right) a.long) b.long
+      one_long (intermediate b.layouts p) name other (subst (λ (l : Layouts). IsTooLong (intermediate l p) name) (one_layout told p a.layouts b.layouts a.right b.right) a.long) b.long
 
   pub one_long_code : OneLongCode
   one_long_code text name other a b =
