@@ -47,6 +47,13 @@ pub enum Stop {
     Fault(Kind, u16),
 }
 
+/// Whether an instruction was carried out. What stopped it is told beside.
+#[derive(Clone, Copy)]
+pub enum Done {
+    Went,
+    Stopped,
+}
+
 /// A value that is shifted bit by bit, the last bit that went out, and whether its sign ever changed.
 #[derive(Clone, Copy)]
 pub struct Shift {

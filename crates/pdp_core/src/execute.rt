@@ -1,17 +1,19 @@
 // The instructions.
-ghost use Rattle.std.specs.Prelude.{◌≡◌, ◌+◌, ◌-◌, ◌*◌, ◌%◌, ◌<◌, ◌^◌, OnErr, ◌&&◌, nat_le, bit_or, false, if◌then◌else◌};
+ghost use Rattle.std.specs.Prelude.{◌≡◌, ◌+◌, ◌-◌, ◌*◌, ◌%◌, ◌<◌, ◌^◌, OnErr, bit_or, false};
 ghost use Rattle.pdp_code.specs.First.{operand_of};
 ghost use Rattle.pdp_code.specs.declared.instruction.Instr.{Instr};
 ghost use Rattle.pdp_core.specs.Accesses.{store_made, update_made, double_made, single_end_made, single_read_made, single_made, word_made, register_made, push_made, pop_made, perform_made, execute_made};
 ghost use Rattle.pdp_core.specs.Spots.{place_of};
-ghost use Rattle.pdp_core.specs.Execute.{failure, limit, move as move_of, double, sum, single, single_read, single_end, on_word as on_word_of, on_register, is_odd_pair, left, holds, branch, loop, target, call, return_by, double_step, sum_step, single_step, word_step, register_step, jump_step, call_step, perform as perform_of, plan, ended, execute};
+ghost use Rattle.pdp_core.specs.Execute.{failure, limit, move as move_of, double, sum, single, single_read, single_end, on_word as on_word_of, on_register, is_odd_pair, left, holds, branch, loop, target, call, return_by, double_step, sum_step, single_step, word_step, register_step, jump_step, call_step, perform as perform_of, plan, trap, execute};
+ghost use Rattle.pdp_core.specs.Told.{told};
 
-use crate::cpu::{Failure, Kind, Regs, Spot, Stop};
+use crate::cpu::{Done, Failure, Kind, Regs, Spot, Stop};
 use crate::groups::carry_out;
 use crate::memory::Bus;
 use crate::operand::{
     find, get, index, load_at, next, set, set_at, store_at, store_word, value, word_at, write_word,
 };
+use crate::operations::{OnOne, OnSum, OnTwo, Width};
 use crate::shift::{divide, get_pair, product, set_product, set_shifted, set_shifted_pair, shift};
 use crate::value::{
     add, change, clear_bits, differ_of, extend, limit_of, mark, set_by_difference, set_by_sum,
@@ -354,96 +356,91 @@ pub fn leave<B: Bus>(bus: &mut B, regs: &mut Regs, r: Reg) -> Result<(), Failure
     Ok(())
 }
 
+/// Tells why an instruction is not carried out.
 #[inline(always)]
-pub fn ask(at: u16, n: u8) -> Result<Stop, Failure>
-    ensures { result ≡ (if nat_le 1 n && nat_le n 11 then Ok (Stop.Trap n) else Err (failure Kind.Reserved at)) }
+pub fn stop_by(stop: &mut Stop, failure: Failure) -> Done
+    ensures stopped { result ≡ Done.Stopped }
+    ensures fault { stop.new ≡ Stop.Fault failure.kind failure.at }
+{
+    *stop = Stop::Fault(failure.kind, failure.at);
+    Done::Stopped
+}
+
+/// Asks for the service of that number, for an instruction at a place.
+#[inline(always)]
+pub fn ask<B: Bus>(bus: &B, regs: &Regs, at: u16, n: u8, stop: &mut Stop) -> Done
+    ensures { trap at (B.world bus.now) regs.now n ≡ told result stop.new regs.now (B.world bus.now) }
 {
     if 1 <= n && n <= 11 {
-        Ok(Stop::Trap(n))
+        *stop = Stop::Trap(n);
+        Done::Stopped
     } else {
-        Err(failed(Kind::Reserved, at))
+        stop_by(stop, failed(Kind::Reserved, at))
     }
 }
 
 /// A source and a destination, of words or bytes.
 #[inline(always)]
-pub fn do_double<B: Bus>(
+pub fn do_double<O: OnTwo, Z: Width, B: Bus>(
     bus: &mut B,
     regs: &mut Regs,
-    op: DoubleOp,
-    size: Size,
     s: u16,
     d: u16,
-) -> Result<Stop, Failure>
-    ensures value { double_step (B.world bus.old) regs.old op size (operand_of s) (operand_of d) ≡ ended result regs.new (B.world bus.new) }
+) -> Result<(), Failure>
+    ensures value { double_step (B.world bus.old) regs.old O.OP Z.SIZE (operand_of s) (operand_of d) ≡ left result regs.new (B.world bus.new) }
     ensures err { OnErr result (B.world bus.new ≡ B.world bus.old) }
-    ensures made { B.accesses bus.new ≡ perform_made 0 (B.world bus.old) regs.old (Instr.Double op size (operand_of s) (operand_of d)) (B.accesses bus.old) }
+    ensures made { B.accesses bus.new ≡ perform_made 0 (B.world bus.old) regs.old (Instr.Double O.OP Z.SIZE (operand_of s) (operand_of d)) (B.accesses bus.old) }
 {
-    let x = value(bus, size, regs, s)?;
+    let x = value(bus, Z::SIZE, regs, s)?;
     if d / 0o10 == 0 {
-        two(bus, regs, op, size, x, Spot::Register(d))?;
-        return Ok(Stop::Went);
+        return two(bus, regs, O::OP, Z::SIZE, x, Spot::Register(d));
     }
-    let place = find(bus, size, regs, d)?;
-    two(bus, regs, op, size, x, place)?;
-    Ok(Stop::Went)
+    let place = find(bus, Z::SIZE, regs, d)?;
+    two(bus, regs, O::OP, Z::SIZE, x, place)
 }
 
 /// A source and a destination, of words alone.
 #[inline(always)]
-pub fn do_sum<B: Bus>(
-    bus: &mut B,
-    regs: &mut Regs,
-    op: SumOp,
-    s: u16,
-    d: u16,
-) -> Result<Stop, Failure>
-    ensures value { sum_step (B.world bus.old) regs.old op (operand_of s) (operand_of d) ≡ ended result regs.new (B.world bus.new) }
+pub fn do_sum<O: OnSum, B: Bus>(bus: &mut B, regs: &mut Regs, s: u16, d: u16) -> Result<(), Failure>
+    ensures value { sum_step (B.world bus.old) regs.old O.OP (operand_of s) (operand_of d) ≡ left result regs.new (B.world bus.new) }
     ensures err { OnErr result (B.world bus.new ≡ B.world bus.old) }
-    ensures made { B.accesses bus.new ≡ perform_made 0 (B.world bus.old) regs.old (Instr.Sum op (operand_of s) (operand_of d)) (B.accesses bus.old) }
+    ensures made { B.accesses bus.new ≡ perform_made 0 (B.world bus.old) regs.old (Instr.Sum O.OP (operand_of s) (operand_of d)) (B.accesses bus.old) }
 {
     let x = value(bus, Size::Word, regs, s)?;
     if d / 0o10 == 0 {
-        total(bus, regs, op, x, Spot::Register(d))?;
-        return Ok(Stop::Went);
+        return total(bus, regs, O::OP, x, Spot::Register(d));
     }
     let place = find(bus, Size::Word, regs, d)?;
-    total(bus, regs, op, x, place)?;
-    Ok(Stop::Went)
+    total(bus, regs, O::OP, x, place)
 }
 
 /// One operand, of words or bytes.
 #[inline(always)]
-pub fn do_single<B: Bus>(
+pub fn do_single<O: OnOne, Z: Width, B: Bus>(
     bus: &mut B,
     regs: &mut Regs,
-    op: SingleOp,
-    size: Size,
     d: u16,
-) -> Result<Stop, Failure>
-    ensures value { single_step (B.world bus.old) regs.old op size (operand_of d) ≡ ended result regs.new (B.world bus.new) }
+) -> Result<(), Failure>
+    ensures value { single_step (B.world bus.old) regs.old O.OP Z.SIZE (operand_of d) ≡ left result regs.new (B.world bus.new) }
     ensures err { OnErr result (B.world bus.new ≡ B.world bus.old) }
-    ensures made { B.accesses bus.new ≡ perform_made 0 (B.world bus.old) regs.old (Instr.Single op size (operand_of d)) (B.accesses bus.old) }
+    ensures made { B.accesses bus.new ≡ perform_made 0 (B.world bus.old) regs.old (Instr.Single O.OP Z.SIZE (operand_of d)) (B.accesses bus.old) }
 {
     if d / 0o10 == 0 {
-        one(bus, regs, op, size, Spot::Register(d))?;
-        return Ok(Stop::Went);
+        return one(bus, regs, O::OP, Z::SIZE, Spot::Register(d));
     }
-    let place = find(bus, size, regs, d)?;
-    one(bus, regs, op, size, place)?;
-    Ok(Stop::Went)
+    let place = find(bus, Z::SIZE, regs, d)?;
+    one(bus, regs, O::OP, Z::SIZE, place)
 }
 
 /// One operand, of words alone.
 #[inline(always)]
-pub fn do_word<B: Bus>(bus: &mut B, regs: &mut Regs, op: WordOp, d: u16) -> Result<Stop, Failure>
-    ensures value { word_step (B.world bus.old) regs.old op (operand_of d) ≡ ended result regs.new (B.world bus.new) }
+pub fn do_word<B: Bus>(bus: &mut B, regs: &mut Regs, op: WordOp, d: u16) -> Result<(), Failure>
+    ensures value { word_step (B.world bus.old) regs.old op (operand_of d) ≡ left result regs.new (B.world bus.new) }
     ensures err { OnErr result (B.world bus.new ≡ B.world bus.old) }
     ensures made { B.accesses bus.new ≡ perform_made 0 (B.world bus.old) regs.old (Instr.OnWord op (operand_of d)) (B.accesses bus.old) }
 {
     let place = find(bus, Size::Word, regs, d)?;
-    on_word(bus, regs, op, place)?;
-    Ok(Stop::Went)
+    on_word(bus, regs, op, place)
 }
 
 /// A register and an operand.
@@ -455,8 +452,8 @@ pub fn do_register<B: Bus>(
     op: RegisterOp,
     r: Reg,
     s: u16,
-) -> Result<Stop, Failure>
-    ensures value { register_step at (B.world bus.old) regs.old op r (operand_of s) ≡ ended result regs.new (B.world bus.new) }
+) -> Result<(), Failure>
+    ensures value { register_step at (B.world bus.old) regs.old op r (operand_of s) ≡ left result regs.new (B.world bus.new) }
     ensures err { OnErr result (B.world bus.new ≡ B.world bus.old) }
     ensures made { B.accesses bus.new ≡ perform_made at (B.world bus.old) regs.old (Instr.OnRegister op r (operand_of s)) (B.accesses bus.old) }
 {
@@ -465,51 +462,45 @@ pub fn do_register<B: Bus>(
     }
     let before = get(regs, r);
     let place = find(bus, Size::Word, regs, s)?;
-    with_register(bus, regs, op, r, before, place)?;
-    Ok(Stop::Went)
+    with_register(bus, regs, op, r, before, place)
 }
 
 /// A jump.
 #[inline(always)]
-pub fn do_jump<B: Bus>(bus: &mut B, regs: &mut Regs, at: u16, d: u16) -> Result<Stop, Failure>
-    ensures value { jump_step at (B.world bus.old) regs.old (operand_of d) ≡ ended result regs.new (B.world bus.new) }
+pub fn do_jump<B: Bus>(bus: &mut B, regs: &mut Regs, at: u16, d: u16) -> Result<(), Failure>
+    ensures value { jump_step at (B.world bus.old) regs.old (operand_of d) ≡ left result regs.new (B.world bus.new) }
     ensures err { OnErr result (B.world bus.new ≡ B.world bus.old) }
     ensures made { B.accesses bus.new ≡ perform_made at (B.world bus.old) regs.old (Instr.Jump (operand_of d)) (B.accesses bus.old) }
 {
     let place = find(bus, Size::Word, regs, d)?;
     let to = address_of(at, place)?;
     set(regs, Reg::Pc, to);
-    Ok(Stop::Went)
+    Ok(())
 }
 
 /// A call of a subroutine.
 #[inline(always)]
-pub fn do_call<B: Bus>(
-    bus: &mut B,
-    regs: &mut Regs,
-    at: u16,
-    r: Reg,
-    d: u16,
-) -> Result<Stop, Failure>
-    ensures value { call_step at (B.world bus.old) regs.old r (operand_of d) ≡ ended result regs.new (B.world bus.new) }
+pub fn do_call<B: Bus>(bus: &mut B, regs: &mut Regs, at: u16, r: Reg, d: u16) -> Result<(), Failure>
+    ensures value { call_step at (B.world bus.old) regs.old r (operand_of d) ≡ left result regs.new (B.world bus.new) }
     ensures err { OnErr result (B.world bus.new ≡ B.world bus.old) }
     ensures made { B.accesses bus.new ≡ perform_made at (B.world bus.old) regs.old (Instr.Call r (operand_of d)) (B.accesses bus.old) }
 {
     let place = find(bus, Size::Word, regs, d)?;
     let to = address_of(at, place)?;
-    enter(bus, regs, r, to)?;
-    Ok(Stop::Went)
+    enter(bus, regs, r, to)
 }
 
 #[inline(always)]
-fn attempt<B: Bus>(bus: &mut B, regs: &mut Regs) -> Result<Stop, Failure>
-    ensures value { plan (B.world bus.old) regs.old ≡ ended result regs.new (B.world bus.new) }
-    ensures err { OnErr result (B.world bus.new ≡ B.world bus.old) }
+fn attempt<B: Bus>(bus: &mut B, regs: &mut Regs, stop: &mut Stop) -> Done
+    ensures value { plan (B.world bus.old) regs.old ≡ told result stop.new regs.new (B.world bus.new) }
+    ensures err { result ≡ Done.Stopped → B.world bus.new ≡ B.world bus.old }
     ensures made { B.accesses bus.new ≡ execute_made (B.world bus.old) regs.old (B.accesses bus.old) }
 {
     let at = get(regs, Reg::Pc);
-    let w = next(bus, regs)?;
-    carry_out(bus, regs, at, w)
+    match next(bus, regs) {
+        Ok(w) => carry_out(bus, regs, at, w, stop),
+        Err(failure) => stop_by(stop, failure),
+    }
 }
 
 /// One instruction: registers, flags and memory are changed as the instruction table says, or, on a fault, not at all. It
@@ -520,11 +511,16 @@ pub fn step<B: Bus>(regs: &mut Regs, bus: &mut B) -> Stop
     ensures made { B.accesses bus.new ≡ execute_made (B.world bus.old) regs.old (B.accesses bus.old) }
 {
     let before = *regs;
-    match attempt(bus, regs) {
-        Ok(stop) => stop,
-        Err(failure) => {
-            *regs = before;
-            Stop::Fault(failure.kind, failure.at)
-        }
+    let mut stop = Stop::Went;
+    match attempt(bus, regs, &mut stop) {
+        Done::Went => Stop::Went,
+        Done::Stopped => match stop {
+            Stop::Fault(kind, at) => {
+                *regs = before;
+                Stop::Fault(kind, at)
+            }
+            Stop::Trap(n) => Stop::Trap(n),
+            Stop::Went => Stop::Went,
+        },
     }
 }

@@ -1,83 +1,159 @@
 // Instructions, decoded and carried out in one: a function for each group of codes.
-ghost use Rattle.std.specs.Prelude.{◌≡◌, ◌/◌, ◌%◌, Ok, OnErr};
+ghost use Rattle.std.specs.Prelude.{◌≡◌, ◌≢◌, ◌/◌, ◌%◌, Some, None};
 ghost use Rattle.pdp_code.specs.declared.instruction.Instr.{Instr};
-ghost use Rattle.pdp_code.specs.First.{size_at, operand_of, other_first, first_of};
+ghost use Rattle.pdp_code.specs.Code.{condition_code};
+ghost use Rattle.pdp_code.specs.First.{size_at, operand_of, double_of, condition_of, other_first, first_of};
 ghost use Rattle.pdp_core.specs.Accesses.{perform_made, first_made};
-ghost use Rattle.pdp_core.specs.Execute.{branch as branch_of, holds, double_step, single_step, perform_first, ended};
-ghost use Rattle.pdp_core.specs.declared.cpu.Stop.{Stop};
-ghost use Rattle.pdp_core.specs.Groups.{branch_or_other, from_registers, from_words, from_singles, from_sums};
+ghost use Rattle.pdp_core.specs.Execute.{branch as branch_of, holds, double_step, sum_step, single_step, perform_first};
+ghost use Rattle.pdp_core.specs.Told.{told};
+ghost use Rattle.pdp_core.specs.Groups.{from_registers, from_words, from_singles};
 
-use crate::cpu::{Failure, Kind, Regs, Stop};
+use crate::cpu::{Done, Kind, Regs, Stop};
 use crate::execute::{
     ask, count_down, do_call, do_double, do_jump, do_register, do_single, do_sum, do_word, failed,
-    leave, take_branch,
+    leave, stop_by, take_branch,
 };
 use crate::memory::Bus;
+use crate::operations::{
+    Adc, Add, Asl, Asr, Bic, Bis, Bit, Bytes, Clr, Cmp, Com, Dec, Inc, Mov, Neg, OnOne, OnSum,
+    OnTwo, Rol, Ror, Sbc, Sub, Tst, Width, Words,
+};
 use crate::value::mark;
 use pdp_code::first::register;
-use pdp_code::{Condition, DoubleOp, RegisterOp, SingleOp, Size, SumOp, WordOp};
+use pdp_code::laws::first_words;
+use pdp_code::{Condition, RegisterOp, WordOp};
+
+// How an instruction ended that asks for no service.
+macro_rules! ended {
+    ($how:expr, $stop:expr) => {
+        match $how {
+            Ok(()) => Done::Went,
+            Err(failure) => stop_by($stop, failure),
+        }
+    };
+}
+
+/// A source and a destination, of words or bytes. Each operation of each size is a function of its own, and no part of the loop.
+#[inline(never)]
+fn carry_two<O: OnTwo, Z: Width, B: Bus>(
+    bus: &mut B,
+    regs: &mut Regs,
+    w: u16,
+    stop: &mut Stop,
+) -> Done
+    ensures value { double_step (B.world bus.old) regs.old O.OP Z.SIZE (operand_of (w / 64 % 64)) (operand_of (w % 64)) ≡ told result stop.new regs.new (B.world bus.new) }
+    ensures err { result ≡ Done.Stopped → B.world bus.new ≡ B.world bus.old }
+    ensures made { B.accesses bus.new ≡ perform_made 0 (B.world bus.old) regs.old (Instr.Double O.OP Z.SIZE (operand_of (w / 64 % 64)) (operand_of (w % 64))) (B.accesses bus.old) }
+{
+    ended!(
+        do_double::<O, Z, B>(bus, regs, w / 0o100 % 0o100, w % 0o100),
+        stop
+    )
+}
+
+/// A source and a destination, of words alone.
+#[inline(never)]
+fn carry_sum<O: OnSum, B: Bus>(bus: &mut B, regs: &mut Regs, w: u16, stop: &mut Stop) -> Done
+    ensures value { sum_step (B.world bus.old) regs.old O.OP (operand_of (w / 64 % 64)) (operand_of (w % 64)) ≡ told result stop.new regs.new (B.world bus.new) }
+    ensures err { result ≡ Done.Stopped → B.world bus.new ≡ B.world bus.old }
+    ensures made { B.accesses bus.new ≡ perform_made 0 (B.world bus.old) regs.old (Instr.Sum O.OP (operand_of (w / 64 % 64)) (operand_of (w % 64))) (B.accesses bus.old) }
+{
+    ended!(
+        do_sum::<O, B>(bus, regs, w / 0o100 % 0o100, w % 0o100),
+        stop
+    )
+}
+
+/// One operand, of words or bytes.
+#[inline(never)]
+fn carry_one<O: OnOne, Z: Width, B: Bus>(
+    bus: &mut B,
+    regs: &mut Regs,
+    w: u16,
+    stop: &mut Stop,
+) -> Done
+    ensures value { single_step (B.world bus.old) regs.old O.OP Z.SIZE (operand_of (w % 64)) ≡ told result stop.new regs.new (B.world bus.new) }
+    ensures err { result ≡ Done.Stopped → B.world bus.new ≡ B.world bus.old }
+    ensures made { B.accesses bus.new ≡ perform_made 0 (B.world bus.old) regs.old (Instr.Single O.OP Z.SIZE (operand_of (w % 64))) (B.accesses bus.old) }
+{
+    ended!(do_single::<O, Z, B>(bus, regs, w % 0o100), stop)
+}
 
 /// A source and a destination, of words or bytes by the top bit.
 #[inline(always)]
-fn double<B: Bus>(bus: &mut B, regs: &mut Regs, op: DoubleOp, w: u16) -> Result<Stop, Failure>
-    ensures value { double_step (B.world bus.old) regs.old op (size_at (w / 32768)) (operand_of (w / 64 % 64)) (operand_of (w % 64)) ≡ ended result regs.new (B.world bus.new) }
-    ensures err { OnErr result (B.world bus.new ≡ B.world bus.old) }
-    ensures made { B.accesses bus.new ≡ perform_made 0 (B.world bus.old) regs.old (Instr.Double op (size_at (w / 32768)) (operand_of (w / 64 % 64)) (operand_of (w % 64))) (B.accesses bus.old) }
+fn double<O: OnTwo, B: Bus>(bus: &mut B, regs: &mut Regs, w: u16, stop: &mut Stop) -> Done
+    ensures value { double_step (B.world bus.old) regs.old O.OP (size_at (w / 32768)) (operand_of (w / 64 % 64)) (operand_of (w % 64)) ≡ told result stop.new regs.new (B.world bus.new) }
+    ensures err { result ≡ Done.Stopped → B.world bus.new ≡ B.world bus.old }
+    ensures made { B.accesses bus.new ≡ perform_made 0 (B.world bus.old) regs.old (Instr.Double O.OP (size_at (w / 32768)) (operand_of (w / 64 % 64)) (operand_of (w % 64))) (B.accesses bus.old) }
 {
     if w / 0o100000 == 0 {
-        do_double(bus, regs, op, Size::Word, w / 0o100 % 0o100, w % 0o100)
+        carry_two::<O, Words, B>(bus, regs, w, stop)
     } else {
-        do_double(bus, regs, op, Size::Byte, w / 0o100 % 0o100, w % 0o100)
+        carry_two::<O, Bytes, B>(bus, regs, w, stop)
     }
 }
 
 /// One operand, of words or bytes by the top bit.
 #[inline(always)]
-fn single<B: Bus>(bus: &mut B, regs: &mut Regs, op: SingleOp, w: u16) -> Result<Stop, Failure>
-    ensures value { single_step (B.world bus.old) regs.old op (size_at (w / 32768)) (operand_of (w % 64)) ≡ ended result regs.new (B.world bus.new) }
-    ensures err { OnErr result (B.world bus.new ≡ B.world bus.old) }
-    ensures made { B.accesses bus.new ≡ perform_made 0 (B.world bus.old) regs.old (Instr.Single op (size_at (w / 32768)) (operand_of (w % 64))) (B.accesses bus.old) }
+fn single<O: OnOne, B: Bus>(bus: &mut B, regs: &mut Regs, w: u16, stop: &mut Stop) -> Done
+    ensures value { single_step (B.world bus.old) regs.old O.OP (size_at (w / 32768)) (operand_of (w % 64)) ≡ told result stop.new regs.new (B.world bus.new) }
+    ensures err { result ≡ Done.Stopped → B.world bus.new ≡ B.world bus.old }
+    ensures made { B.accesses bus.new ≡ perform_made 0 (B.world bus.old) regs.old (Instr.Single O.OP (size_at (w / 32768)) (operand_of (w % 64))) (B.accesses bus.old) }
 {
     if w / 0o100000 == 0 {
-        do_single(bus, regs, op, Size::Word, w % 0o100)
+        carry_one::<O, Words, B>(bus, regs, w, stop)
     } else {
-        do_single(bus, regs, op, Size::Byte, w % 0o100)
+        carry_one::<O, Bytes, B>(bus, regs, w, stop)
     }
+}
+
+/// The words of a branch on a condition, by their eight top bits.
+#[inline(always)]
+fn branch_begins(c: Condition, w: u16)
+    requires { w / 256 ≡ condition_code c }
+    ensures { first_of w ≡ Some (Instr.Branch c (w % 256)) }
+{
+    first_words();
 }
 
 /// A branch, by the eight low bits.
 #[inline(always)]
-fn branch(regs: &mut Regs, c: Condition, w: u16) -> Result<Stop, Failure>
-    ensures done { result ≡ Ok Stop.Went }
+fn branch(regs: &mut Regs, c: Condition, w: u16) -> Done
+    requires { w / 256 ≡ condition_code c }
+    ensures done { result ≡ Done.Went }
+    ensures first { first_of w ≡ Some (Instr.Branch c (w % 256)) }
     ensures regs { regs.new ≡ branch_of regs.old (holds regs.old c) (w % 256) }
 {
+    branch_begins(c, w);
     take_branch(regs, c, (w % 0o400) as u8);
-    Ok(Stop::Went)
+    Done::Went
 }
 
 /// The instructions with no table of their own.
-#[inline(always)]
-fn other<B: Bus>(bus: &mut B, regs: &mut Regs, at: u16, w: u16) -> Result<Stop, Failure>
-    ensures value { perform_first at (B.world bus.old) regs.old (other_first w) ≡ ended result regs.new (B.world bus.new) }
-    ensures err { OnErr result (B.world bus.new ≡ B.world bus.old) }
+#[inline(never)]
+fn other<B: Bus>(bus: &mut B, regs: &mut Regs, at: u16, w: u16, stop: &mut Stop) -> Done
+    ensures value { perform_first at (B.world bus.old) regs.old (other_first w) ≡ told result stop.new regs.new (B.world bus.new) }
+    ensures err { result ≡ Done.Stopped → B.world bus.new ≡ B.world bus.old }
     ensures made { B.accesses bus.new ≡ first_made at (B.world bus.old) regs.old (other_first w) (B.accesses bus.old) }
 {
     if w / 0o1000 == 0o77 {
         count_down(regs, register(w / 0o100 % 0o10), (w % 0o100) as u8);
-        return Ok(Stop::Went);
+        return Done::Went;
     }
     if w / 0o100 == 1 {
-        return do_jump(bus, regs, at, w % 0o100);
+        return ended!(do_jump(bus, regs, at, w % 0o100), stop);
     }
     if w / 0o1000 == 4 {
-        return do_call(bus, regs, at, register(w / 0o100 % 0o10), w % 0o100);
+        return ended!(
+            do_call(bus, regs, at, register(w / 0o100 % 0o10), w % 0o100),
+            stop
+        );
     }
     if w / 0o10 == 0o20 {
-        leave(bus, regs, register(w % 0o10))?;
-        return Ok(Stop::Went);
+        return ended!(leave(bus, regs, register(w % 0o10)), stop);
     }
     if w / 0o400 == 0o211 {
-        return ask(at, (w % 0o400) as u8);
+        return ask(bus, regs, at, (w % 0o400) as u8, stop);
     }
     if w / 0o40 == 5 {
         mark(
@@ -88,18 +164,95 @@ fn other<B: Bus>(bus: &mut B, regs: &mut Regs, at: u16, w: u16) -> Result<Stop, 
             w / 2 % 2 == 1,
             w % 2 == 1,
         );
-        return Ok(Stop::Went);
+        return Done::Went;
     }
-    Err(failed(Kind::Reserved, at))
+    stop_by(stop, failed(Kind::Reserved, at))
 }
 
-/// The branches, and what is no instruction of the groups before.
-#[inline(always)]
-fn branch_or_more<B: Bus>(bus: &mut B, regs: &mut Regs, at: u16, w: u16) -> Result<Stop, Failure>
-    ensures value { perform_first at (B.world bus.old) regs.old (branch_or_other w) ≡ ended result regs.new (B.world bus.new) }
-    ensures err { OnErr result (B.world bus.new ≡ B.world bus.old) }
-    ensures made { B.accesses bus.new ≡ first_made at (B.world bus.old) regs.old (branch_or_other w) (B.accesses bus.old) }
+/// A register and an operand, or the groups behind, where it is no branch.
+#[inline(never)]
+fn register_or_more<B: Bus>(bus: &mut B, regs: &mut Regs, at: u16, w: u16, stop: &mut Stop) -> Done
+    requires { condition_of (w / 256) ≡ None }
+    ensures value { perform_first at (B.world bus.old) regs.old (from_registers w) ≡ told result stop.new regs.new (B.world bus.new) }
+    ensures err { result ≡ Done.Stopped → B.world bus.new ≡ B.world bus.old }
+    ensures made { B.accesses bus.new ≡ first_made at (B.world bus.old) regs.old (from_registers w) (B.accesses bus.old) }
 {
+    let r = register(w / 0o100 % 0o10);
+    let s = w % 0o100;
+    match w / 0o1000 {
+        0o70 => ended!(do_register(bus, regs, at, RegisterOp::Mul, r, s), stop),
+        0o71 => ended!(do_register(bus, regs, at, RegisterOp::Div, r, s), stop),
+        0o72 => ended!(do_register(bus, regs, at, RegisterOp::Ash, r, s), stop),
+        0o73 => ended!(do_register(bus, regs, at, RegisterOp::Ashc, r, s), stop),
+        0o74 => ended!(do_register(bus, regs, at, RegisterOp::Xor, r, s), stop),
+        _ => other(bus, regs, at, w, stop),
+    }
+}
+
+/// One operand, of words alone, or the groups behind, where it is no branch.
+#[inline(always)]
+fn word_or_more<B: Bus>(bus: &mut B, regs: &mut Regs, at: u16, w: u16, stop: &mut Stop) -> Done
+    requires { condition_of (w / 256) ≡ None }
+    ensures value { perform_first at (B.world bus.old) regs.old (from_words w) ≡ told result stop.new regs.new (B.world bus.new) }
+    ensures err { result ≡ Done.Stopped → B.world bus.new ≡ B.world bus.old }
+    ensures made { B.accesses bus.new ≡ first_made at (B.world bus.old) regs.old (from_words w) (B.accesses bus.old) }
+{
+    match w / 0o100 {
+        3 => ended!(do_word(bus, regs, WordOp::Swab, w % 0o100), stop),
+        0o67 => ended!(do_word(bus, regs, WordOp::Sxt, w % 0o100), stop),
+        _ => register_or_more(bus, regs, at, w, stop),
+    }
+}
+
+/// One operand, of words or bytes, or the groups behind, where it is no branch.
+#[inline(always)]
+fn single_or_more<B: Bus>(bus: &mut B, regs: &mut Regs, at: u16, w: u16, stop: &mut Stop) -> Done
+    requires { condition_of (w / 256) ≡ None }
+    ensures value { perform_first at (B.world bus.old) regs.old (from_singles w) ≡ told result stop.new regs.new (B.world bus.new) }
+    ensures err { result ≡ Done.Stopped → B.world bus.new ≡ B.world bus.old }
+    ensures made { B.accesses bus.new ≡ first_made at (B.world bus.old) regs.old (from_singles w) (B.accesses bus.old) }
+{
+    match w / 0o100 % 0o1000 {
+        0o50 => single::<Clr, B>(bus, regs, w, stop),
+        0o51 => single::<Com, B>(bus, regs, w, stop),
+        0o52 => single::<Inc, B>(bus, regs, w, stop),
+        0o53 => single::<Dec, B>(bus, regs, w, stop),
+        0o54 => single::<Neg, B>(bus, regs, w, stop),
+        0o55 => single::<Adc, B>(bus, regs, w, stop),
+        0o56 => single::<Sbc, B>(bus, regs, w, stop),
+        0o57 => single::<Tst, B>(bus, regs, w, stop),
+        0o60 => single::<Ror, B>(bus, regs, w, stop),
+        0o61 => single::<Rol, B>(bus, regs, w, stop),
+        0o62 => single::<Asr, B>(bus, regs, w, stop),
+        0o63 => single::<Asl, B>(bus, regs, w, stop),
+        _ => word_or_more(bus, regs, at, w, stop),
+    }
+}
+
+/// No other instruction is a branch.
+#[inline(always)]
+fn is_no_branch(w: u16)
+    requires { w / 4096 % 8 ≢ 0 }
+    ensures { condition_of (w / 256) ≡ None }
+{}
+
+/// What is no instruction of two operands.
+#[inline(always)]
+fn has_one_at_most(w: u16)
+    requires no_double { double_of (w / 4096 % 8) ≡ None }
+    requires no_sum { w / 4096 % 8 ≢ 6 }
+    ensures { first_of w ≡ from_singles w }
+{}
+
+/// The instructions with no operand and with one, of which the branches are told first.
+#[inline(always)]
+fn one_at_most<B: Bus>(bus: &mut B, regs: &mut Regs, at: u16, w: u16, stop: &mut Stop) -> Done
+    requires { w / 4096 % 8 ≡ 0 }
+    ensures value { perform_first at (B.world bus.old) regs.old (first_of w) ≡ told result stop.new regs.new (B.world bus.new) }
+    ensures err { result ≡ Done.Stopped → B.world bus.new ≡ B.world bus.old }
+    ensures made { B.accesses bus.new ≡ first_made at (B.world bus.old) regs.old (first_of w) (B.accesses bus.old) }
+{
+    has_one_at_most(w);
     match w / 0o400 {
         1 => branch(regs, Condition::Always, w),
         2 => branch(regs, Condition::NotEqual, w),
@@ -116,94 +269,46 @@ fn branch_or_more<B: Bus>(bus: &mut B, regs: &mut Regs, at: u16, w: u16) -> Resu
         0o205 => branch(regs, Condition::Overflow, w),
         0o206 => branch(regs, Condition::NoCarry, w),
         0o207 => branch(regs, Condition::Carry, w),
-        _ => other(bus, regs, at, w),
+        _ => single_or_more(bus, regs, at, w, stop),
     }
 }
 
-/// A register and an operand, or the groups behind.
+/// A source and a destination, of words alone, by the top bit.
 #[inline(always)]
-fn register_or_more<B: Bus>(bus: &mut B, regs: &mut Regs, at: u16, w: u16) -> Result<Stop, Failure>
-    ensures value { perform_first at (B.world bus.old) regs.old (from_registers w) ≡ ended result regs.new (B.world bus.new) }
-    ensures err { OnErr result (B.world bus.new ≡ B.world bus.old) }
-    ensures made { B.accesses bus.new ≡ first_made at (B.world bus.old) regs.old (from_registers w) (B.accesses bus.old) }
+fn sum<B: Bus>(bus: &mut B, regs: &mut Regs, at: u16, w: u16, stop: &mut Stop) -> Done
+    requires { w / 4096 % 8 ≡ 6 }
+    ensures value { perform_first at (B.world bus.old) regs.old (first_of w) ≡ told result stop.new regs.new (B.world bus.new) }
+    ensures err { result ≡ Done.Stopped → B.world bus.new ≡ B.world bus.old }
+    ensures made { B.accesses bus.new ≡ first_made at (B.world bus.old) regs.old (first_of w) (B.accesses bus.old) }
 {
-    let r = register(w / 0o100 % 0o10);
-    match w / 0o1000 {
-        0o70 => do_register(bus, regs, at, RegisterOp::Mul, r, w % 0o100),
-        0o71 => do_register(bus, regs, at, RegisterOp::Div, r, w % 0o100),
-        0o72 => do_register(bus, regs, at, RegisterOp::Ash, r, w % 0o100),
-        0o73 => do_register(bus, regs, at, RegisterOp::Ashc, r, w % 0o100),
-        0o74 => do_register(bus, regs, at, RegisterOp::Xor, r, w % 0o100),
-        _ => branch_or_more(bus, regs, at, w),
-    }
-}
-
-/// One operand, of words alone, or the groups behind.
-#[inline(always)]
-fn word_or_more<B: Bus>(bus: &mut B, regs: &mut Regs, at: u16, w: u16) -> Result<Stop, Failure>
-    ensures value { perform_first at (B.world bus.old) regs.old (from_words w) ≡ ended result regs.new (B.world bus.new) }
-    ensures err { OnErr result (B.world bus.new ≡ B.world bus.old) }
-    ensures made { B.accesses bus.new ≡ first_made at (B.world bus.old) regs.old (from_words w) (B.accesses bus.old) }
-{
-    match w / 0o100 {
-        3 => do_word(bus, regs, WordOp::Swab, w % 0o100),
-        0o67 => do_word(bus, regs, WordOp::Sxt, w % 0o100),
-        _ => register_or_more(bus, regs, at, w),
-    }
-}
-
-/// One operand, of words or bytes, or the groups behind.
-#[inline(always)]
-fn single_or_more<B: Bus>(bus: &mut B, regs: &mut Regs, at: u16, w: u16) -> Result<Stop, Failure>
-    ensures value { perform_first at (B.world bus.old) regs.old (from_singles w) ≡ ended result regs.new (B.world bus.new) }
-    ensures err { OnErr result (B.world bus.new ≡ B.world bus.old) }
-    ensures made { B.accesses bus.new ≡ first_made at (B.world bus.old) regs.old (from_singles w) (B.accesses bus.old) }
-{
-    match w / 0o100 % 0o1000 {
-        0o50 => single(bus, regs, SingleOp::Clr, w),
-        0o51 => single(bus, regs, SingleOp::Com, w),
-        0o52 => single(bus, regs, SingleOp::Inc, w),
-        0o53 => single(bus, regs, SingleOp::Dec, w),
-        0o54 => single(bus, regs, SingleOp::Neg, w),
-        0o55 => single(bus, regs, SingleOp::Adc, w),
-        0o56 => single(bus, regs, SingleOp::Sbc, w),
-        0o57 => single(bus, regs, SingleOp::Tst, w),
-        0o60 => single(bus, regs, SingleOp::Ror, w),
-        0o61 => single(bus, regs, SingleOp::Rol, w),
-        0o62 => single(bus, regs, SingleOp::Asr, w),
-        0o63 => single(bus, regs, SingleOp::Asl, w),
-        _ => word_or_more(bus, regs, at, w),
-    }
-}
-
-/// A source and a destination, of words alone, or the groups behind.
-#[inline(always)]
-fn sum_or_more<B: Bus>(bus: &mut B, regs: &mut Regs, at: u16, w: u16) -> Result<Stop, Failure>
-    ensures value { perform_first at (B.world bus.old) regs.old (from_sums w) ≡ ended result regs.new (B.world bus.new) }
-    ensures err { OnErr result (B.world bus.new ≡ B.world bus.old) }
-    ensures made { B.accesses bus.new ≡ first_made at (B.world bus.old) regs.old (from_sums w) (B.accesses bus.old) }
-{
-    let s = w / 0o100 % 0o100;
-    match w / 0o10000 {
-        6 => do_sum(bus, regs, SumOp::Add, s, w % 0o100),
-        0o16 => do_sum(bus, regs, SumOp::Sub, s, w % 0o100),
-        _ => single_or_more(bus, regs, at, w),
+    if w / 0o100000 == 0 {
+        prove!(w / 0o10000 == 6);
+        carry_sum::<Add, B>(bus, regs, w, stop)
+    } else {
+        prove!(w / 0o10000 == 0o16);
+        carry_sum::<Sub, B>(bus, regs, w, stop)
     }
 }
 
 /// The instruction that a first word begins, which stood at a place; the registers are past it.
 #[inline(always)]
-pub fn carry_out<B: Bus>(bus: &mut B, regs: &mut Regs, at: u16, w: u16) -> Result<Stop, Failure>
-    ensures value { perform_first at (B.world bus.old) regs.old (first_of w) ≡ ended result regs.new (B.world bus.new) }
-    ensures err { OnErr result (B.world bus.new ≡ B.world bus.old) }
+pub fn carry_out<B: Bus>(bus: &mut B, regs: &mut Regs, at: u16, w: u16, stop: &mut Stop) -> Done
+    ensures value { perform_first at (B.world bus.old) regs.old (first_of w) ≡ told result stop.new regs.new (B.world bus.new) }
+    ensures err { result ≡ Done.Stopped → B.world bus.new ≡ B.world bus.old }
     ensures made { B.accesses bus.new ≡ first_made at (B.world bus.old) regs.old (first_of w) (B.accesses bus.old) }
 {
     match w / 0o10000 % 0o10 {
-        1 => double(bus, regs, DoubleOp::Mov, w),
-        2 => double(bus, regs, DoubleOp::Cmp, w),
-        3 => double(bus, regs, DoubleOp::Bit, w),
-        4 => double(bus, regs, DoubleOp::Bic, w),
-        5 => double(bus, regs, DoubleOp::Bis, w),
-        _ => sum_or_more(bus, regs, at, w),
+        0 => one_at_most(bus, regs, at, w, stop),
+        1 => double::<Mov, B>(bus, regs, w, stop),
+        2 => double::<Cmp, B>(bus, regs, w, stop),
+        3 => double::<Bit, B>(bus, regs, w, stop),
+        4 => double::<Bic, B>(bus, regs, w, stop),
+        5 => double::<Bis, B>(bus, regs, w, stop),
+        6 => sum(bus, regs, at, w, stop),
+        _ => {
+            has_one_at_most(w);
+            is_no_branch(w);
+            single_or_more(bus, regs, at, w, stop)
+        }
     }
 }

@@ -11,6 +11,7 @@ mod groups;
 pub mod laws;
 pub mod memory;
 mod operand;
+mod operations;
 mod shift;
 mod value;
 
