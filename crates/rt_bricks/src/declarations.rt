@@ -120,8 +120,8 @@ fn data_items(
 ) -> Result<(List<DataItem>, &[Item]), Stop>
     ensures { Gives (λ x. (x.0, x.1.now)) result (reads.data_items context items.now) }
 {
-    let (first, mut rest) = data_item(alloc, context, items)?;
     let mut all = List::new(alloc, 1)?;
+    let (first, mut rest) = data_item(alloc, context, items)?;
     all.push(first)?;
     for _turn in 0..rest.len() {
         if !mark_comes(Mark::Comma, rest) {

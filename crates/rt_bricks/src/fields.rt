@@ -82,10 +82,10 @@ fn first_field(
 ) -> Result<(Collected, &[Item]), Stop>
     ensures { Gives (λ x. (x.0, x.1.now)) result (reads.first_field context modes parentheses items.now) }
 {
+    let before = List::new(alloc, 0)?;
     let at = at_of(context.total, items);
     let (mode, rest) = written_mode(alloc, context, modes, parentheses, items)?;
     let (name, rest) = ident(alloc, context.total, rest)?;
-    let before = List::new(alloc, 0)?;
     let last = fields_of(alloc, mode, name, at)?;
     Ok((Collected { before, last }, rest))
 }

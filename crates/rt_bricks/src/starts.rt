@@ -183,8 +183,8 @@ fn listed(
 ) -> Result<(List<Start>, &[Item]), Stop>
     ensures { Gives (λ x. (x.0, x.1.now)) result (reads.listed context levels (reads.inside context levels) items.now) }
 {
-    let (first, mut rest) = inside(alloc, context, levels, items)?;
     let mut all = List::new(alloc, 1)?;
+    let (first, mut rest) = inside(alloc, context, levels, items)?;
     all.push(first)?;
     for _turn in 0..rest.len() {
         if !mark_comes(Mark::Comma, rest) {

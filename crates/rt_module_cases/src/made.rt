@@ -10,7 +10,7 @@ use std::alloc::Global;
 pub fn made(alloc: Global, written: &str) -> Result<Labelled, Stop> {
     let (word, rest) = written.split_once(' ').unwrap_or((written, ""));
     match word {
-        "RECOVER" => line(alloc, Stat::Recover(label(rest)?)),
+        "RECOVER" => Ok(line(alloc, Stat::Recover(label(rest)?))),
         "BLOCK" => in_marked_block(alloc, label(rest)?),
         "TWICE" => twice(alloc),
         "LOOP" => in_a_loop(alloc),
@@ -27,51 +27,57 @@ fn label(written: &str) -> Result<u16, Stop> {
     }
 }
 
-fn line(alloc: Global, stat: Stat) -> Result<Labelled, Stop> {
-    let labels = List::from_vec(Vec::new(alloc));
-    let stat = Some(stat);
-    Ok(Labelled { labels, stat })
+fn line(alloc: Global, stat: Stat) -> Labelled {
+    Labelled {
+        labels: List::from_vec(Vec::new(alloc)),
+        stat: Some(stat),
+    }
 }
 
-fn one(alloc: Global, line: Labelled) -> Result<List<Labelled>, Stop> {
-    let mut lines = List::from_vec(Vec::new(alloc));
-    lines.push(line)?;
-    Ok(lines)
-}
-
-fn block(alloc: Global, statements: List<Labelled>) -> Result<Labelled, Stop> {
+fn block(alloc: Global, statements: List<Labelled>) -> Labelled {
     let locals = List::from_vec(Vec::new(alloc));
     line(alloc, Stat::Block(Body { locals, statements }))
+}
+
+fn only<T: Drop>(alloc: Global, item: T) -> Result<List<T>, Stop> {
+    let mut items = List::from_vec(Vec::new(alloc));
+    items.push(item)?;
+    Ok(items)
+}
+
+fn recover(alloc: Global, label: u16) -> Result<List<Labelled>, Stop> {
+    only(alloc, line(alloc, Stat::Recover(label)))
 }
 
 /// `BLOCK B: ERL := label ENDBLOCK`, where B is label 2.
 fn in_marked_block(alloc: Global, label: u16) -> Result<Labelled, Stop> {
     let labels = List::from_slice(alloc, &[2])?;
     let stat = Some(Stat::Recover(label));
-    block(alloc, one(alloc, Labelled { labels, stat })?)
+    let statements = only(alloc, Labelled { labels, stat })?;
+    Ok(block(alloc, statements))
 }
 
 /// `IF I = 0 THEN ERL := L END`, of the first local and label.
 fn recovers_at_0(alloc: Global) -> Result<Labelled, Stop> {
-    let taken = one(alloc, line(alloc, Stat::Recover(0))?)?;
-    let local = Value::Read(Boxed::new(alloc, Place::Local(0))?);
-    let test = Test::Compare(Rel::Equal, local, Value::Number(0));
-    let mut branches = List::from_vec(Vec::new(alloc));
-    branches.push(Branch { test, taken })?;
-    line(alloc, Stat::If(branches, None))
+    let taken = recover(alloc, 0)?;
+    let local = Boxed::new(alloc, Place::Local(0))?;
+    let test = Test::Compare(Rel::Equal, Value::Read(local), Value::Number(0));
+    let branches = only(alloc, Branch { test, taken })?;
+    Ok(line(alloc, Stat::If(branches, None)))
 }
 
 /// `BLOCK ERL := L; IF I = 0 THEN ERL := L END ENDBLOCK`, of the first local and label.
 fn twice(alloc: Global) -> Result<Labelled, Stop> {
-    let mut statements = one(alloc, line(alloc, Stat::Recover(0))?)?;
+    let mut statements = recover(alloc, 0)?;
     statements.push(recovers_at_0(alloc)?)?;
-    block(alloc, statements)
+    Ok(block(alloc, statements))
 }
 
 /// `TO 2 DO BLOCK ERL := L ENDBLOCK REP`, of the first loop and label.
 fn in_a_loop(alloc: Global) -> Result<Labelled, Stop> {
-    let inner = block(alloc, one(alloc, line(alloc, Stat::Recover(0))?)?)?;
-    line(alloc, Stat::To(0, Value::Number(2), one(alloc, inner)?))
+    let inner = block(alloc, recover(alloc, 0)?);
+    let repeated = only(alloc, inner)?;
+    Ok(line(alloc, Stat::To(0, Value::Number(2), repeated)))
 }
 
 /// Item 1 of brick 0 becomes the reference of its item 0, or of local 0.
@@ -82,15 +88,16 @@ fn reference(alloc: Global, of: &str) -> Result<Labelled, Stop> {
         _ => return Err(Stop::Line),
     };
     let value = Value::Reference(Boxed::new(alloc, place)?);
-    line(alloc, Stat::Assign(Place::Item(0, 1), value))
+    Ok(line(alloc, Stat::Assign(Place::Item(0, 1), value)))
 }
 
 /// A call of brick 0 with byte 2 of string 0.
 fn byte_of_string(alloc: Global) -> Result<Labelled, Stop> {
-    let string = Place::Through(Boxed::new(alloc, Value::Text(0))?);
     let subscript = Boxed::new(alloc, Value::Number(2))?;
-    let byte = Place::Element(Boxed::new(alloc, string)?, subscript);
-    let mut arguments = List::from_vec(Vec::new(alloc));
-    arguments.push(Value::Read(Boxed::new(alloc, byte)?))?;
-    line(alloc, Stat::Call(Value::Call(Callee::Brick(0), arguments)))
+    let string = Boxed::new(alloc, Value::Text(0))?;
+    let bytes = Boxed::new(alloc, Place::Through(string))?;
+    let byte = Boxed::new(alloc, Place::Element(bytes, subscript))?;
+    let arguments = only(alloc, Value::Read(byte))?;
+    let call = Value::Call(Callee::Brick(0), arguments);
+    Ok(line(alloc, Stat::Call(call)))
 }

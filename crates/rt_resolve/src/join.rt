@@ -6,7 +6,7 @@ ghost use Rattle.rt_tree_nodes.specs.Tree as tree;
 ghost use Rattle.rt_work_state.specs.Nodes as n;
 ghost use Rattle.rt_resolve.specs.Trees as trees;
 
-use crate::share::shared;
+use crate::share::{both_shared, shared};
 use rt_tree::Rel;
 use rt_words::{List, Memory};
 use rt_work_state::{CondNode, LabelsNode, SeqNode, StmtNode, TermNode, TermsNode};
@@ -41,8 +41,8 @@ pub fn joined_terms(alloc: Global, terms: List<TermNode>) -> Result<TermsNode, M
     let mut left = terms;
     let mut joined = TermsNode::NoTerm;
     while let Some(term) = left.pop() {
-        let term = shared(alloc, term)?;
-        joined = TermsNode::MoreTerms(term, shared(alloc, joined)?);
+        let (term, behind) = both_shared(alloc, term, joined)?;
+        joined = TermsNode::MoreTerms(term, behind);
     }
     Ok(joined)
 }
@@ -50,8 +50,7 @@ pub fn joined_terms(alloc: Global, terms: List<TermNode>) -> Result<TermsNode, M
 fn pair(alloc: Global, joins: Joins, left: CondNode, right: CondNode) -> Result<CondNode, Memory>
     ensures { IfOk result (λ t. n.cond t ≡ trees.joining joins (n.cond left) (n.cond right)) }
 {
-    let left = shared(alloc, left)?;
-    let right = shared(alloc, right)?;
+    let (left, right) = both_shared(alloc, left, right)?;
     Ok(match joins {
         Joins::And => CondNode::Both(left, right),
         Joins::Or => CondNode::Either(left, right),
@@ -62,8 +61,8 @@ fn pair(alloc: Global, joins: Joins, left: CondNode, right: CondNode) -> Result<
 fn no_test(alloc: Global) -> Result<CondNode, Memory>
     ensures { IfOk result (λ t. n.cond t ≡ tree.Is Rel.Equal (tree.Num 0) (tree.Num 0)) }
 {
-    let left = shared(alloc, TermNode::Num(0))?;
-    Ok(CondNode::Is(Rel::Equal, left, shared(alloc, TermNode::Num(0))?))
+    let (left, right) = both_shared(alloc, TermNode::Num(0), TermNode::Num(0))?;
+    Ok(CondNode::Is(Rel::Equal, left, right))
 }
 
 /// Conditions, joined from the right.
@@ -106,8 +105,8 @@ pub fn joined_statements(
     let mut left = statements;
     let mut joined = behind;
     while let Some(statement) = left.pop() {
-        let statement = shared(alloc, statement)?;
-        joined = SeqNode::Then(statement, shared(alloc, joined)?);
+        let (statement, rest) = both_shared(alloc, statement, joined)?;
+        joined = SeqNode::Then(statement, rest);
     }
     Ok(joined)
 }
@@ -133,9 +132,8 @@ fn with_line(alloc: Global, line: Line, behind: SeqNode) -> Result<SeqNode, Memo
     match stat {
         None => marked(alloc, labels, behind),
         Some(stat) => {
-            let stat = shared(alloc, stat)?;
-            let rest = SeqNode::Then(stat, shared(alloc, behind)?);
-            marked(alloc, labels, rest)
+            let (stat, behind) = both_shared(alloc, stat, behind)?;
+            marked(alloc, labels, SeqNode::Then(stat, behind))
         }
     }
 }
@@ -157,9 +155,8 @@ fn choice(alloc: Global, branch: BranchNode, otherwise: SeqNode) -> Result<StmtN
     ensures { IfOk result (λ s. n.stmt s ≡ tree.If (n.cond branch.test) (n.seq branch.taken) (n.seq otherwise)) }
 {
     let BranchNode { test, taken } = branch;
-    let test = shared(alloc, test)?;
-    let taken = shared(alloc, taken)?;
-    Ok(StmtNode::If(test, taken, shared(alloc, otherwise)?))
+    let (taken, otherwise) = both_shared(alloc, taken, otherwise)?;
+    Ok(StmtNode::If(shared(alloc, test)?, taken, otherwise))
 }
 
 // The branch as the one statement behind the ELSE of the branch before it.
@@ -167,8 +164,8 @@ fn behind_else(alloc: Global, branch: BranchNode, otherwise: SeqNode) -> Result<
     ensures { IfOk result (λ q. n.seq q ≡ trees.after_branch (trees.branch branch) (n.seq otherwise)) }
 {
     let choice = choice(alloc, branch, otherwise)?;
-    let choice = shared(alloc, choice)?;
-    Ok(SeqNode::Then(choice, shared(alloc, SeqNode::Done)?))
+    let (choice, end) = both_shared(alloc, choice, SeqNode::Done)?;
+    Ok(SeqNode::Then(choice, end))
 }
 
 /// The first branch, with the others behind its ELSE.

@@ -15,3 +15,17 @@ pub fn shared<T: Drop>(alloc: Global, value: T) -> Result<Rc<T>, Memory>
         Err(_) => Err(Memory),
     }
 }
+
+/// The same of two values. Both are dropped where there is no memory for either.
+pub fn both_shared<A: Drop, B: Drop>(
+    alloc: Global,
+    left: A,
+    right: B,
+) -> Result<(Rc<A>, Rc<B>), Memory>
+    ensures left { IfOk result (λ x. x.0.value ≡ left) }
+    ensures right { IfOk result (λ x. x.1.value ≡ right) }
+{
+    let left = shared(alloc, left)?;
+    let right = shared(alloc, right)?;
+    Ok((left, right))
+}

@@ -9,7 +9,7 @@ ghost use Rattle.rt_modes.specs.declared.mode.Mode.{out-Mode};
 ghost use Rattle.rt_work_state.specs.Nodes as n;
 ghost use Rattle.rt_resolve.specs.Trees as trees;
 
-use crate::share::shared;
+use crate::share::{both_shared, shared};
 use rt_modes::Mode;
 use rt_tree::{Found, Lent, ValueMode, copy_mode};
 use rt_tree_nodes::copy_lent;
@@ -94,9 +94,9 @@ fn element_path(
     match mode {
         Lent::Of(mode) => match mode {
             Mode::Array(length, of) => {
+                let (path, subscript) = both_shared(alloc, path, subscript)?;
                 let of = copy_mode(alloc, of.get())?;
-                let path = shared(alloc, path)?;
-                Ok(PathNode::Elem(path, shared(alloc, subscript)?, *length, of))
+                Ok(PathNode::Elem(path, subscript, *length, of))
             }
             _ => Ok(path),
         },
@@ -117,9 +117,8 @@ fn element_of_row(
         None => Ok(Spot::Row(row)),
         Some(found) => match found {
             Found::Row(mode) => {
+                let (row, subscript) = both_shared(alloc, row, subscript)?;
                 let of = copy_lent(alloc, mode)?;
-                let row = shared(alloc, row)?;
-                let subscript = shared(alloc, subscript)?;
                 Ok(Spot::Path(PathNode::ElemRow(row, subscript, of)))
             }
             _ => Ok(Spot::Row(row)),
@@ -232,13 +231,13 @@ pub fn assigned(
 ) -> Result<StmtNode, Memory>
     ensures { IfOk result (λ s. n.stmt s ≡ statements.assigned_tree (trees.placed_by (seen.place_found found.now) (trees.spot spot)) (n.term value)) }
 {
-    let value = shared(alloc, value)?;
     match spot {
-        Spot::Local(i) => Ok(StmtNode::Keep(i, value)),
+        Spot::Local(i) => Ok(StmtNode::Keep(i, shared(alloc, value)?)),
         Spot::Path(path) => {
+            let (path, value) = both_shared(alloc, path, value)?;
             let mode = copy_lent(alloc, &mode_at(found))?;
-            Ok(StmtNode::Put(mode, shared(alloc, path)?, value))
+            Ok(StmtNode::Put(mode, path, value))
         }
-        Spot::Row(_) => Ok(StmtNode::Run(value)),
+        Spot::Row(_row) => Ok(StmtNode::Run(shared(alloc, value)?)),
     }
 }

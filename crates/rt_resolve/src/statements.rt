@@ -13,7 +13,7 @@ use crate::join::{
     BranchNode, Joins, Line, joined_branches, joined_labels, joined_lines, joined_statements,
     joined_tests,
 };
-use crate::share::shared;
+use crate::share::{both_shared, shared};
 use crate::spot::assigned;
 use crate::values::{spot, term};
 use rt_tree::{
@@ -62,9 +62,9 @@ fn compare(
     ensures { IfOk result (λ t. n.cond t ≡ trees.comparison (seen.scope scope.now) relation left.now right.now) }
 {
     let left = term(alloc, scope, left)?;
-    let left = shared(alloc, left)?;
     let right = term(alloc, scope, right)?;
-    Ok(CondNode::Is(relation, left, shared(alloc, right)?))
+    let (left, right) = both_shared(alloc, left, right)?;
+    Ok(CondNode::Is(relation, left, right))
 }
 
 /// The plain tree of a body.
@@ -188,8 +188,8 @@ fn to_loop(
     ensures { IfOk result (λ s. n.stmt s ≡ tree.To local (trees.value_tree (seen.scope scope.now) turns.now) (n.seq lines)) }
 {
     let turns = term(alloc, scope, turns)?;
-    let turns = shared(alloc, turns)?;
-    Ok(StmtNode::To(local, turns, shared(alloc, lines)?))
+    let (turns, lines) = both_shared(alloc, turns, lines)?;
+    Ok(StmtNode::To(local, turns, lines))
 }
 
 fn while_loop(
@@ -201,8 +201,8 @@ fn while_loop(
     ensures { IfOk result (λ s. n.stmt s ≡ tree.While (statements.tested (seen.scope scope.now) test.now).tree (n.seq lines)) }
 {
     let test = cond(alloc, scope, test)?;
-    let test = shared(alloc, test)?;
-    Ok(StmtNode::While(test, shared(alloc, lines)?))
+    let (test, lines) = both_shared(alloc, test, lines)?;
+    Ok(StmtNode::While(test, lines))
 }
 
 // A call that stands alone; a result is dropped.
@@ -252,9 +252,9 @@ fn switch(
     ensures { IfOk result (λ s. n.stmt s ≡ trees.switch (seen.scope scope.now) value.now labels.now) }
 {
     let value = term(alloc, scope, value)?;
-    let value = shared(alloc, value)?;
     let labels = joined_labels(alloc, labels)?;
-    Ok(StmtNode::Switch(value, shared(alloc, labels)?))
+    let (value, labels) = both_shared(alloc, value, labels)?;
+    Ok(StmtNode::Switch(value, labels))
 }
 
 // What stands in front of DO in a FOR.
@@ -309,10 +309,9 @@ fn for_loop(alloc: Global, head: ForHead, lines: SeqNode) -> Result<StmtNode, Me
         step,
         end,
     } = head;
-    let start = shared(alloc, start)?;
-    let step = shared(alloc, step)?;
-    let end = shared(alloc, end)?;
-    Ok(StmtNode::For(local, start, step, end, shared(alloc, lines)?))
+    let (end, lines) = both_shared(alloc, end, lines)?;
+    let (start, step) = both_shared(alloc, start, step)?;
+    Ok(StmtNode::For(local, start, step, end, lines))
 }
 
 // The start of a local at each entry.

@@ -8,7 +8,7 @@ ghost use Rattle.rt_work_state.specs.Nodes as n;
 ghost use Rattle.rt_resolve.specs.Trees as trees;
 
 use crate::join::joined_terms;
-use crate::share::shared;
+use crate::share::{both_shared, shared};
 use crate::spot::{Spot, element, field, led, length, read, reference};
 use rt_modes::Mode;
 use rt_tree::{Callee, Op2, Place, Scope, Value, ValueMode, found_at, mode_of};
@@ -141,8 +141,7 @@ fn call_by(
 fn dyadic(alloc: Global, operator: Op2, left: TermNode, right: TermNode) -> Result<TermNode, Memory>
     ensures { IfOk result (λ t. n.term t ≡ typing.dyadic_tree operator (n.term left) (n.term right)) }
 {
-    let left = shared(alloc, left)?;
-    let right = shared(alloc, right)?;
+    let (left, right) = both_shared(alloc, left, right)?;
     Ok(match operator {
         Op2::Divide | Op2::Mod => TermNode::Over(operator, left, right),
         _ => TermNode::Two(operator, left, right),

@@ -70,8 +70,8 @@ fn local_list(
 ) -> Result<(List<Local>, &[Item]), Stop>
     ensures { Gives (λ x. (x.0, x.1.now)) result (reads.local_list context items.now) }
 {
-    let (first, mut rest) = local(alloc, context, items)?;
     let mut all = List::new(alloc, 1)?;
+    let (first, mut rest) = local(alloc, context, items)?;
     all.push(first)?;
     for _turn in 0..rest.len() {
         if !mark_comes(Mark::Comma, rest) {
@@ -215,8 +215,8 @@ pub fn names(
 ) -> Result<(List<Ident>, &[Item]), Stop>
     ensures { Gives (λ x. (x.0, x.1.now)) result (reads.names context items.now) }
 {
-    let (first, mut rest) = ident(alloc, context.total, items)?;
     let mut all = List::new(alloc, 1)?;
+    let (first, mut rest) = ident(alloc, context.total, items)?;
     all.push(first)?;
     for _turn in 0..rest.len() {
         if !mark_comes(Mark::Comma, rest) {
@@ -349,8 +349,8 @@ fn sequence_of(
 ) -> Result<(List<Stmt>, &[Item]), Stop>
     ensures { Gives (λ x. (x.0, x.1.now)) result (reads.sequence_of context levels (reads.inside context levels) items.now) }
 {
-    let (first, mut rest) = statement(alloc, context, levels, items)?;
     let mut all = List::new(alloc, 1)?;
+    let (first, mut rest) = statement(alloc, context, levels, items)?;
     all.push(first)?;
     for _turn in 0..rest.len() {
         if !mark_comes(Mark::Semicolon, rest) {
@@ -478,8 +478,8 @@ fn branches(
 {
     let at = at_of(context.total, items);
     let rest = open_word(levels, Word::If, items)?;
-    let (first, mut rest) = branch_from(alloc, context, levels, at, rest)?;
     let mut all = List::new(alloc, 1)?;
+    let (first, mut rest) = branch_from(alloc, context, levels, at, rest)?;
     all.push(first)?;
     for _turn in 0..rest.len() {
         if !word_comes(Word::ElseIf, rest) {

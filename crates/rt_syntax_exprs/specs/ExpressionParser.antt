@@ -204,17 +204,17 @@ more_comparisons c n cs = turns_from n (word_comes w.And) push (and_comparison c
 abbrev pub conjoined : At → List Cond → Parser Cond
 conjoined at all = pure (cond.And all at)
 
-unfoldable pub conjunction_from : Context → At → Cond → Parser Cond
-conjunction_from c at first = do
+unfoldable pub conjunction_from : Context → At → List Cond → Parser Cond
+conjunction_from c at found = do
   second ← and_comparison c
-  all ← turns (word_comes w.And) push (and_comparison c) (first ∷ second ∷ [])
+  all ← turns (word_comes w.And) push (and_comparison c) (push found second)
   conjoined at all
 
 unfoldable pub conjunction : Context → Parser Cond
 conjunction c = do
   at ← here c.total
   first ← comparison c
-  choose (is_word w.And) (conjunction_from c at first) (pure first)
+  choose (is_word w.And) (conjunction_from c at (first ∷ [])) (pure first)
 
 unfoldable pub or_conjunction : Context → Parser Cond
 or_conjunction c = do _ ← word w.Or; conjunction c
@@ -225,14 +225,14 @@ more_conjunctions c n cs = turns_from n (word_comes w.Or) push (or_conjunction c
 abbrev pub disjoined : At → List Cond → Parser Cond
 disjoined at all = pure (cond.Or all at)
 
-unfoldable pub condition_from : Context → At → Cond → Parser Cond
-condition_from c at first = do
+unfoldable pub condition_from : Context → At → List Cond → Parser Cond
+condition_from c at found = do
   second ← or_conjunction c
-  all ← turns (word_comes w.Or) push (or_conjunction c) (first ∷ second ∷ [])
+  all ← turns (word_comes w.Or) push (or_conjunction c) (push found second)
   disjoined at all
 
 unfoldable pub condition : Context → Parser Cond
 condition c = do
   at ← here c.total
   first ← conjunction c
-  choose (is_word w.Or) (condition_from c at first) (pure first)
+  choose (is_word w.Or) (condition_from c at (first ∷ [])) (pure first)

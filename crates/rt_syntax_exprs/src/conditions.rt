@@ -1,6 +1,6 @@
 //! Conditions (BS 5904, conditions).
 
-ghost use Rattle.std.specs.Prelude.{◌≡◌};
+ghost use Rattle.std.specs.Prelude.{◌≡◌, IfOk, ◌∷◌, []};
 ghost use Rattle.rt_grammar.specs.Parsing.{Gives};
 ghost use Rattle.rt_syntax_exprs.specs.ExpressionParser as reads;
 
@@ -10,7 +10,7 @@ use crate::table::relation_of;
 use crate::tree::Cond;
 use rt_grammar::{At, Stop, after_word, at_of, found_in, next_of, word_comes};
 use rt_pieces::{Item, Word};
-use rt_words::List;
+use rt_words::{List, Memory};
 use std::alloc::Global;
 
 /// Two expressions with a relation between them.
@@ -33,20 +33,28 @@ fn and_comparison(alloc: Global, context: Context, items: &[Item]) -> Result<(Co
     comparison(alloc, context, rest)
 }
 
+/// A list of one condition.
+fn alone(alloc: Global, first: Cond) -> Result<List<Cond>, Memory>
+    ensures { IfOk result (λ l. l ≡ first ∷ []) }
+{
+    let mut all = List::new(alloc, 2)?;
+    all.push(first)?;
+    Ok(all)
+}
+
 /// The rest of comparisons with AND between them.
 #[tactic(auto, unfolding(crate::specs::ExpressionParser::conjunction_from))]
 fn conjunction_from<'a>(
     alloc: Global,
     context: Context,
     at: At,
-    first: Cond,
+    found: List<Cond>,
     items: &'a [Item],
 ) -> Result<(Cond, &'a [Item]), Stop>
-    ensures { Gives (λ x. (x.0, x.1.now)) result (reads.conjunction_from context at first items.now) }
+    ensures { Gives (λ x. (x.0, x.1.now)) result (reads.conjunction_from context at found items.now) }
 {
+    let mut all = found;
     let (second, mut rest) = and_comparison(alloc, context, items)?;
-    let mut all = List::new(alloc, 2)?;
-    all.push(first)?;
     all.push(second)?;
     for _turn in 0..rest.len() {
         if !word_comes(Word::And, rest) {
@@ -69,7 +77,7 @@ fn conjunction(alloc: Global, context: Context, items: &[Item]) -> Result<(Cond,
     if !word_comes(Word::And, rest) {
         return Ok((first, rest));
     }
-    conjunction_from(alloc, context, at, first, rest)
+    conjunction_from(alloc, context, at, alone(alloc, first)?, rest)
 }
 
 #[tactic(auto, unfolding(crate::specs::ExpressionParser::or_conjunction))]
@@ -86,14 +94,13 @@ fn condition_from<'a>(
     alloc: Global,
     context: Context,
     at: At,
-    first: Cond,
+    found: List<Cond>,
     items: &'a [Item],
 ) -> Result<(Cond, &'a [Item]), Stop>
-    ensures { Gives (λ x. (x.0, x.1.now)) result (reads.condition_from context at first items.now) }
+    ensures { Gives (λ x. (x.0, x.1.now)) result (reads.condition_from context at found items.now) }
 {
+    let mut all = found;
     let (second, mut rest) = or_conjunction(alloc, context, items)?;
-    let mut all = List::new(alloc, 2)?;
-    all.push(first)?;
     all.push(second)?;
     for _turn in 0..rest.len() {
         if !word_comes(Word::Or, rest) {
@@ -116,5 +123,5 @@ pub fn condition(alloc: Global, context: Context, items: &[Item]) -> Result<(Con
     if !word_comes(Word::Or, rest) {
         return Ok((first, rest));
     }
-    condition_from(alloc, context, at, first, rest)
+    condition_from(alloc, context, at, alone(alloc, first)?, rest)
 }

@@ -4,4 +4,4 @@ use Rattle.rt_syntax_exprs.specs.ExpressionParser as reads
 use Rattle.rt_syntax_exprs.proofs.conditions.conjunction_from.Given as goal
 
 abbrev pub invariant-loop-turn : goal.invariant-loop-turn
-invariant-loop-turn l = reads.conjunction_from l.context l.at l.fn.first l.fn.items ≡ (reads.more_comparisons l.context (l._turn-end - l._turn) l.all >>= reads.conjoined l.at) l.rest
+invariant-loop-turn l = reads.conjunction_from l.context l.at l.fn.found l.fn.items ≡ (reads.more_comparisons l.context (l._turn-end - l._turn) l.all >>= reads.conjoined l.at) l.rest
