@@ -1,21 +1,16 @@
 -- How many items a procedure has, by the numbers of the first and the last.
-use Rattle.std.proofs.Common.{◌≡◌, ℕ, ◌+◌, ◌-◌, ◌<◌, ◌≤◌, List, [], ◌∷◌, length, arith}
+use Rattle.std.proofs.Common.{ℕ, ◌<◌, List, [], ◌∷◌, length, arith}
 use Rattle.std.specs.List.{AllByRecursion}
 use Rattle.rt_bricks.specs.declared.tree.Declaration.{Declaration}
 use Rattle.rt_bricks.specs.declared.tree.Declaration.TheVariants as d
-use Rattle.rt_bricks.specs.Counted.{items_between}
 use Rattle.rt_bricks_laws.specs.Counted.{Counted}
 use Rattle.rt_bricks_laws.proofs.Bricks.{procedures_counted}
 use Rattle.rt_bricks_laws.specs.Laws.{ItemsCounted, ItemsAreCounted}
-
-between : (opens ends : ℕ) → opens ≤ ends + 1 → ends < 65535 → items_between opens ends ≡ ends + 1 - opens
-between opens ends h few = omega arith
 
 counted_items : (total : ℕ) (y : Declaration) → total < 65536 → Counted total y → ItemsCounted y
 counted_items total (d.Procedure b) few h =
     let some = h.items in
     let there = h.there in
-    let e = between b.opens.item b.ends.item (omega arith) (omega arith) in
     (omega arith, omega arith)
 counted_items total (d.Record x) few h = tt
 counted_items total (d.Data x) few h = tt

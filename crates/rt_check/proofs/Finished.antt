@@ -1,5 +1,5 @@
 -- What is answered of a whole module.
-use Rattle.std.proofs.Common.{◌≡◌, inl, inr, ℕ, List, [], ◌∷◌, map, Option, Some, None, Result, Ok, Err, refl, sym, ap, ◌∙◌, subst}
+use Rattle.std.proofs.Common.{◌≡◌, inl, inr, ℕ, List, [], ◌∷◌, map, Option, Some, None, Result, Ok, Err, refl, ap, ◌∙◌, subst}
 use Rattle.std.specs.Prelude.{IfOk, IfErr}
 use Rattle.rt_bricks.specs.declared.tree.Declaration.{Declaration}
 use Rattle.rt_bricks.specs.declared.tree.Module.{Module}
@@ -8,9 +8,9 @@ use Rattle.rt_modes.specs.declared.mode.ModeTable.{ModeTable}
 use Rattle.rt_modes.specs.declared.mode.RecordDef.{RecordDef}
 use Rattle.rt_tree_nodes.specs.declared.brick.Brick.{Brick}
 use Rattle.rt_tree_nodes.specs.declared.brick.ModuleParts.{ModuleParts}
-use Rattle.rt_exprs.specs.declared.fault.CheckFault.{CheckFault}
-use Rattle.rt_exprs.proofs.Joins.{told}
-use Rattle.rt_exprs.specs.Outcomes.{IsAnswered, IsLeast, UnlessMemory}
+use Rattle.rt_check_faults.specs.declared.fault.CheckFault.{CheckFault}
+use Rattle.rt_check_faults.proofs.Joins.{told}
+use Rattle.rt_check_faults.specs.Outcomes.{IsAnswered, IsLeast, UnlessMemory}
 use Rattle.rt_sizes.specs.Capped.{AreSizes}
 use Rattle.rt_sizes.specs.declared.size.Size.{Size}
 use Rattle.rt_sizes.specs.Sizes.{Table}

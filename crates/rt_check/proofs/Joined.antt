@@ -1,7 +1,7 @@
 -- The faults of a whole module.
-use Rattle.std.proofs.Common.{◌⊎◌, inl, inr, List, Option, Some, None}
+use Rattle.std.proofs.Common.{◌⊎◌, inl, inr, List, Option}
 use Rattle.rt_bricks.specs.declared.tree.Declaration.{Declaration}
-use Rattle.rt_exprs.specs.declared.fault.CheckFault.{CheckFault}
+use Rattle.rt_check_faults.specs.declared.fault.CheckFault.{CheckFault}
 use Rattle.rt_check_declared.specs.Heads.{noted}
 use Rattle.rt_check_declared.specs.Records.{Counts}
 use Rattle.rt_check_module.specs.Tree.{Somewhere, sight, headings, records}

@@ -7,7 +7,7 @@ use Rattle.rt_modes.specs.declared.mode.ModeTable.{ModeTable}
 use Rattle.rt_modes.specs.declared.mode.RecordDef.{RecordDef}
 use Rattle.rt_tree_nodes.specs.declared.brick.Brick.{Brick}
 use Rattle.rt_tree_nodes.specs.declared.brick.ModuleParts.{ModuleParts}
-use Rattle.rt_exprs.specs.declared.fault.CheckFault.{CheckFault}
+use Rattle.rt_check_faults.specs.declared.fault.CheckFault.{CheckFault}
 use Rattle.rt_sizes.specs.Capped.{AreSizes}
 use Rattle.rt_sizes.specs.declared.size.Size.{Size}
 use Rattle.rt_sizes.specs.Sizes.{Table}

@@ -6,9 +6,9 @@ use Rattle.rt_bricks.specs.Derives.{Derives}
 use Rattle.rt_check.specs.Derived.{IsDerived}
 use Rattle.rt_items.specs.Lets.{Reading, Items}
 use Rattle.rt_tree_nodes.specs.declared.brick.ModuleParts.{ModuleParts}
-use Rattle.rt_exprs.specs.declared.fault.CheckFault.{CheckFault}
-use Rattle.rt_exprs.specs.declared.fault.CheckFault.TheVariants as check
-use Rattle.rt_exprs.specs.Outcomes.{UnlessMemory}
+use Rattle.rt_check_faults.specs.declared.fault.CheckFault.{CheckFault}
+use Rattle.rt_check_faults.specs.declared.fault.CheckFault.TheVariants as check
+use Rattle.rt_check_faults.specs.Outcomes.{UnlessMemory}
 use Rattle.rt_pieces.specs.declared.fault.TextFault.{TextFault}
 use Rattle.rt_pieces.specs.declared.fault.TextFault.TheVariants as text
 use Rattle.rt_pieces.specs.declared.item.Item.{Item}

@@ -5,9 +5,9 @@ use Rattle.rt_bricks_laws.specs.Strings.{Rise as Rises}
 use Rattle.rt_check_module_laws.proofs.Reading.{module_within}
 use Rattle.rt_check_module_laws.proofs.Whole.{module_fits}
 use Rattle.rt_tree_nodes.specs.declared.brick.ModuleParts.{ModuleParts}
-use Rattle.rt_exprs.specs.declared.fault.CheckFault.{CheckFault}
-use Rattle.rt_exprs.specs.declared.fault.CheckFault.TheVariants as fault
-use Rattle.rt_exprs.specs.Outcomes.{IsAnswered}
+use Rattle.rt_check_faults.specs.declared.fault.CheckFault.{CheckFault}
+use Rattle.rt_check_faults.specs.declared.fault.CheckFault.TheVariants as fault
+use Rattle.rt_check_faults.specs.Outcomes.{IsAnswered}
 use Rattle.rt_syntax.specs.Strings.{Texts}
 use Rattle.rt_tree.specs.Modules.{every_node_fits}
 use Rattle.rt_tree.specs.Within.{Within}

@@ -5,11 +5,11 @@ use Rattle.rt_bricks.specs.declared.tree.Declaration.{Declaration}
 use Rattle.rt_check_declared.specs.Names.{bricks_in}
 use Rattle.rt_check_declared.specs.declared.bricks.Heading.{Heading}
 use Rattle.rt_modes.specs.declared.mode.RecordDef.{RecordDef}
-use Rattle.rt_exprs.specs.declared.fault.CheckFault.{CheckFault}
-use Rattle.rt_exprs.specs.declared.fault.CheckFault.TheVariants as fault
-use Rattle.rt_exprs.specs.Outcomes.{IsLeast, UnlessMemory}
+use Rattle.rt_check_faults.specs.declared.fault.CheckFault.{CheckFault}
+use Rattle.rt_check_faults.specs.declared.fault.CheckFault.TheVariants as fault
+use Rattle.rt_check_faults.specs.Outcomes.{IsLeast, UnlessMemory}
 use Rattle.rt_check_declared.specs.Verdicts.{with_fault}
-use Rattle.rt_check_declared.proofs.Joins.{sooner_assoc}
+use Rattle.rt_check_faults.proofs.Counting.{sooner_assoc}
 use Rattle.rt_check_declared.specs.Heads.{noted}
 use Rattle.rt_check_declared.specs.Records.{Counts}
 use Rattle.rt_check_declared.proofs.RecordSteps.{drop_next}

@@ -4,8 +4,8 @@ use Rattle.rt_pieces.specs.declared.fault.TextFault.{TextFault}
 use Rattle.rt_pieces.specs.declared.fault.TextFault.TheVariants as text
 use Rattle.rt_syntax.specs.declared.fault.SyntaxFault.{SyntaxFault}
 use Rattle.rt_syntax.specs.declared.fault.SyntaxFault.TheVariants as syntax
-use Rattle.rt_exprs.specs.declared.fault.CheckFault.{CheckFault}
-use Rattle.rt_exprs.specs.declared.fault.CheckFault.TheVariants as check
+use Rattle.rt_check_faults.specs.declared.fault.CheckFault.{CheckFault}
+use Rattle.rt_check_faults.specs.declared.fault.CheckFault.TheVariants as check
 use Rattle.rt_check.specs.declared.fault.ModuleFault.{ModuleFault}
 use Rattle.rt_check.specs.declared.fault.ModuleFault.TheVariants.{Memory, Text, Syntax, Check}
 

@@ -5,7 +5,7 @@ use Rattle.rt_bricks.specs.Derives.{Derives}
 use Rattle.rt_bricks.specs.Modules.{module_of}
 use Rattle.rt_items.specs.Lets.{Items}
 use Rattle.rt_tree_nodes.specs.declared.brick.ModuleParts.{ModuleParts}
-use Rattle.rt_exprs.specs.declared.fault.CheckFault.{CheckFault}
+use Rattle.rt_check_faults.specs.declared.fault.CheckFault.{CheckFault}
 use Rattle.rt_pieces.specs.declared.item.Item.{Item}
 use Rattle.rt_syntax.specs.Derives.{IsRefusedAt}
 use Rattle.rt_check_module.specs.Typed.{IsTyped}

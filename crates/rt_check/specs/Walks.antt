@@ -1,7 +1,7 @@
 -- What is found on the way over the declarations.
 use Rattle.std.specs.Prelude.{ℕ, List, [], ◌∷◌, ◌++◌, replicate, Option, Some, None, Result, Ok, Err}
-use Rattle.rt_exprs.specs.declared.fault.CheckFault.{CheckFault}
-use Rattle.rt_exprs.specs.declared.fault.CheckFault.TheVariants as fault
+use Rattle.rt_check_faults.specs.declared.fault.CheckFault.{CheckFault}
+use Rattle.rt_check_faults.specs.declared.fault.CheckFault.TheVariants as fault
 use Rattle.rt_check_declared.specs.Verdicts.{with_fault}
 use Rattle.rt_check_module.specs.declared.filling.Filling.{Filling}
 use Rattle.rt_check_module.specs.Tree.{nothing}

@@ -4,8 +4,8 @@ use Rattle.rt_bricks.specs.declared.tree.Declaration.{Declaration}
 use Rattle.rt_check_declared.specs.declared.bricks.Heading.{Heading}
 use Rattle.rt_exprs.specs.Sights.{Sight, Names as Level}
 use Rattle.rt_modes.specs.declared.mode.RecordDef.{RecordDef}
-use Rattle.rt_exprs.specs.declared.fault.CheckFault.{CheckFault}
-use Rattle.rt_exprs.specs.Outcomes.{IsLeast}
+use Rattle.rt_check_faults.specs.declared.fault.CheckFault.{CheckFault}
+use Rattle.rt_check_faults.specs.Outcomes.{IsLeast}
 use Rattle.rt_syntax.specs.Strings.{Texts}
 use Rattle.rt_check_module.specs.Tree.{records, texts_from}
 use Rattle.rt_check_module.specs.Faults.{Stands}

@@ -1,8 +1,8 @@
 //! A module, checked.
 
 ghost use Rattle.std.specs.Prelude.{IfOk, IfErr};
-ghost use Rattle.rt_exprs.specs.declared.fault.CheckFault.{CheckFault};
-ghost use Rattle.rt_exprs.specs.Outcomes.{IsAnswered, UnlessMemory};
+ghost use Rattle.rt_check_faults.specs.declared.fault.CheckFault.{CheckFault};
+ghost use Rattle.rt_check_faults.specs.Outcomes.{IsAnswered, UnlessMemory};
 ghost use Rattle.rt_tree.specs.Within.{Within};
 ghost use Rattle.rt_check_module.specs.Tree.{tree};
 ghost use Rattle.rt_check_module.specs.Typed.{IsTyped};
@@ -12,7 +12,7 @@ ghost use Rattle.rt_check.specs.Derived.{IsDerived};
 
 use crate::read_module;
 use rt_bricks::Module;
-use rt_exprs::CheckFault;
+use rt_check_faults::CheckFault;
 use rt_tree::TypedModule;
 use std::alloc::Global;
 

@@ -1,6 +1,6 @@
 //! What can be wrong with the text of a module.
 
-use rt_exprs::CheckFault;
+use rt_check_faults::CheckFault;
 use rt_items::TextFault;
 use rt_syntax::SyntaxFault;
 use thiserror::Error;

@@ -1,8 +1,8 @@
 //! The tree of a whole module.
 
 ghost use Rattle.std.specs.Prelude.{◌≡◌, ℕ, true, [], map, None, IfOk, IfErr};
-ghost use Rattle.rt_exprs.specs.declared.fault.CheckFault.{CheckFault};
-ghost use Rattle.rt_exprs.specs.Outcomes.{IsAnswered, UnlessMemory};
+ghost use Rattle.rt_check_faults.specs.declared.fault.CheckFault.{CheckFault};
+ghost use Rattle.rt_check_faults.specs.Outcomes.{IsAnswered, UnlessMemory};
 ghost use Rattle.rt_syntax.specs.Strings.{text_of};
 ghost use Rattle.rt_check_module.specs.Tree as spec;
 ghost use Rattle.rt_check_module.specs.Tree.{tree};
@@ -21,8 +21,9 @@ use indexmap::IndexSet;
 use rt_bricks::{Declaration, Module};
 use rt_check_bodies::Names;
 use rt_check_declared::{Heading, either};
+use rt_check_faults::CheckFault;
 use rt_check_module::{Filling, Scene, read_scene};
-use rt_exprs::{CheckFault, IndexedRecords, Level};
+use rt_exprs::{IndexedRecords, Level};
 use rt_sizes::Size;
 use rt_syntax::Text;
 use rt_tree_nodes::ModuleParts;

@@ -1,12 +1,12 @@
 -- What is answered where memory may have run out.
-use Rattle.std.proofs.Common.{◌≡◌, Option, Result, Ok, Err, IfErr, inl, inr, refl, sym, ap, ◌∙◌}
+use Rattle.std.proofs.Common.{◌≡◌, Option, Err, inl, inr, refl, sym, ap, ◌∙◌}
 use Rattle.rt_syntax_exprs.specs.declared.tree.Expr.{Expr}
 use Rattle.rt_modes.specs.declared.mode.Mode.{Mode}
 use Rattle.rt_tree_nodes.specs.declared.value.Place.{Place}
-use Rattle.rt_exprs.specs.declared.fault.CheckFault.{CheckFault}
-use Rattle.rt_exprs.specs.declared.fault.CheckFault.TheVariants as fault
-use Rattle.rt_exprs.specs.Outcomes.{Outcome, UnlessMemory, IsLeast, sooner}
-use Rattle.rt_exprs.proofs.Joins.{given, told, free, sooner_left, sooner_right}
+use Rattle.rt_check_faults.specs.declared.fault.CheckFault.{CheckFault}
+use Rattle.rt_check_faults.specs.declared.fault.CheckFault.TheVariants as fault
+use Rattle.rt_check_faults.specs.Outcomes.{Outcome, UnlessMemory, sooner}
+use Rattle.rt_check_faults.proofs.Joins.{given, told, free, sooner_left, sooner_right}
 use Rattle.rt_exprs.specs.Sights.{Sight}
 use Rattle.rt_check_bodies.specs.Sights.{alone_in, assigned_in}
 
@@ -33,8 +33,3 @@ assigned_err s e f g t h k = elim (told f (t ≡ Err f) h) [
     | inr i ↦ given (sooner f g) (assigned_in s t e ≡ Err (sooner f g)) (rw (d, i) refl)
   ]
 ]
-
--- the fault that counts
-pub counts_unless : {A : Type 0} (Stands : CheckFault → Type 0) (r : Result A CheckFault) → IfErr r (IsLeast Stands) → IfErr r (λ g. UnlessMemory g (IsLeast Stands g))
-counts_unless Stands (Ok x) h = tt
-counts_unless Stands (Err g) h = given g (IsLeast Stands g) h

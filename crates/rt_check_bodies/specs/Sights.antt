@@ -12,13 +12,13 @@ use Rattle.rt_tree_nodes.specs.declared.statement.Stat.TheVariants as stats
 use Rattle.rt_tree_nodes.specs.declared.statement.Test.{Test}
 use Rattle.rt_tree_nodes.specs.declared.value.Place.{Place}
 use Rattle.rt_tree_nodes.specs.declared.value.Value.{Value}
-use Rattle.rt_exprs.specs.declared.fault.CheckFault.{CheckFault}
-use Rattle.rt_exprs.specs.declared.fault.CheckFault.TheVariants as fault
+use Rattle.rt_check_faults.specs.declared.fault.CheckFault.{CheckFault}
+use Rattle.rt_check_faults.specs.declared.fault.CheckFault.TheVariants as fault
 use Rattle.rt_exprs.specs.declared.scope.Meaning.{Meaning}
 use Rattle.rt_exprs.specs.declared.scope.Meaning.TheVariants as meaning
 use Rattle.rt_exprs.specs.Sights.{Sight}
 use Rattle.rt_exprs.specs.Modes.{want}
-use Rattle.rt_exprs.specs.Outcomes.{Outcome, ◌>>=◌, unknown, sooner}
+use Rattle.rt_check_faults.specs.Outcomes.{Outcome, ◌>>=◌, unknown, sooner}
 use Rattle.rt_exprs.specs.Names.{find}
 use Rattle.rt_exprs.specs.Judging.{fitted, fitted_alone, fitted_nowhere, target, val_target, alone, tested}
 use Rattle.rt_check_declared.specs.declared.written.Resolved.{Resolved}

@@ -25,10 +25,10 @@ use Rattle.rt_tree_nodes.specs.declared.statement.Stat.{Stat}
 use Rattle.rt_tree_nodes.specs.declared.statement.Stat.TheVariants as stats
 use Rattle.rt_tree_nodes.specs.declared.value.Value.{Value}
 use Rattle.rt_tree.specs.Statements.{starts_at_zero}
-use Rattle.rt_exprs.specs.declared.fault.CheckFault.TheVariants as fault
+use Rattle.rt_check_faults.specs.declared.fault.CheckFault.TheVariants as fault
 use Rattle.rt_exprs.specs.declared.scope.Meaning.{Meaning}
 use Rattle.rt_exprs.specs.declared.scope.Meaning.TheVariants as meaning
-use Rattle.rt_exprs.specs.Outcomes.{Outcome}
+use Rattle.rt_check_faults.specs.Outcomes.{Outcome}
 use Rattle.rt_check_bodies.specs.Parts.{Part, it_is, ◌>>=◌, number_next, value_or, stat_or, return_or, noted_known, test_or, label_or, mode_or, three_locals, noted_if, noted_twice, with_local, labels_more, numbers_from, labels_in}
 use Rattle.rt_check_bodies.specs.declared.answer.Answer.{Answer}
 use Rattle.rt_check_bodies.specs.declared.plain.Bounds.{Bounds}

@@ -4,7 +4,7 @@ ghost use Rattle.std.specs.Prelude.{◌≡◌, None};
 ghost use Rattle.rt_check_declared.specs.Verdicts.{with_faults};
 
 use rt_check_declared::note;
-use rt_exprs::CheckFault;
+use rt_check_faults::CheckFault;
 
 /// The fault that counts of some; `None` where there is none.
 #[tactic(auto, unfolding(rt_check_declared::specs::Verdicts::with_faults))]

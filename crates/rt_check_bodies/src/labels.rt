@@ -7,7 +7,8 @@ ghost use Rattle.rt_check_bodies.specs.Parts.{Gave};
 
 use crate::names::Names;
 use crate::tally::{Tally, behind};
-use rt_exprs::{CheckFault, Level, Meaning};
+use rt_check_faults::CheckFault;
+use rt_exprs::{Level, Meaning};
 use rt_grammar::Ident;
 use rt_words::{List, Memory};
 use std::alloc::Global;

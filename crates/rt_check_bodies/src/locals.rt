@@ -4,13 +4,14 @@ ghost use Rattle.std.specs.Prelude.{◌≡◌, ◌++◌, Option, IfOk, OnOk};
 ghost use Rattle.rt_modes.specs.declared.mode.Mode.{Mode, out-Mode};
 ghost use Rattle.rt_tree_nodes.specs.declared.statement.LocalStart.{LocalStart};
 ghost use Rattle.rt_tree.specs.Statements.{starts_at_zero};
-ghost use Rattle.rt_exprs.specs.Outcomes.{Outcome};
+ghost use Rattle.rt_check_faults.specs.Outcomes.{Outcome};
 ghost use Rattle.rt_check_bodies.specs.Parts.{Gave};
 ghost use Rattle.rt_exprs.specs.Sights.{outside};
 ghost use Rattle.rt_check_bodies.specs.Statements as spec;
 
 use crate::{Names, Tally};
-use rt_exprs::{CheckFault, Meaning};
+use rt_check_faults::CheckFault;
+use rt_exprs::Meaning;
 use rt_grammar::Ident;
 use rt_modes::Mode;
 use rt_syntax::{Local, Locals};

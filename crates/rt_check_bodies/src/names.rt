@@ -4,7 +4,7 @@ ghost use Rattle.std.specs.Prelude.{◌≡◌, [], ◌∷◌, Option, IfOk, OnOk
 ghost use Rattle.std.specs.Option.{option_copied};
 ghost use Rattle.rt_modes.specs.declared.mode.Mode.{Mode};
 ghost use Rattle.rt_tree_nodes.specs.declared.value.Place.{Place};
-ghost use Rattle.rt_exprs.specs.Outcomes.{Outcome, Gives, UnlessMemory};
+ghost use Rattle.rt_check_faults.specs.Outcomes.{Outcome, Gives, UnlessMemory};
 ghost use Rattle.rt_exprs.specs.Names.{find};
 ghost use Rattle.rt_exprs.specs.Judging.{target, val_target, alone};
 ghost use Rattle.rt_check_declared.specs.declared.site.Site.TheVariants as site;
@@ -15,9 +15,10 @@ ghost use Rattle.rt_check_bodies.specs.Sights as spec;
 
 use indexmap::IndexSet;
 use rt_check_declared::{Resolved, Site, resolve};
+use rt_check_faults::CheckFault;
 use rt_exprs::{
-    CheckFault, IndexedRecords, Level, Meaning, Scope, find_name, fit, fit_by_itself, fit_call,
-    fit_condition, fit_nothing, fit_target, fit_val_target,
+    IndexedRecords, Level, Meaning, Scope, find_name, fit, fit_by_itself, fit_call, fit_condition,
+    fit_nothing, fit_target, fit_val_target,
 };
 use rt_grammar::{At, Ident};
 use rt_modes::Mode;

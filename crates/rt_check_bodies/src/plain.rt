@@ -2,14 +2,15 @@
 
 ghost use Rattle.std.specs.Prelude.{◌≡◌, IfOk, OnOk};
 ghost use Rattle.rt_tree_nodes.specs.declared.value.Value.{Value};
-ghost use Rattle.rt_exprs.specs.Outcomes.{Outcome, Gives};
+ghost use Rattle.rt_check_faults.specs.Outcomes.{Outcome, Gives};
 ghost use Rattle.rt_check_bodies.specs.Parts.{Gave};
 ghost use Rattle.rt_exprs.specs.Sights.{within};
 ghost use Rattle.rt_check_bodies.specs.Statements as spec;
 
 use crate::answer::Answer;
 use crate::{Names, Tally, labels_in};
-use rt_exprs::{CheckFault, Level, Meaning};
+use rt_check_faults::CheckFault;
+use rt_exprs::{Level, Meaning};
 use rt_grammar::{At, Ident};
 use rt_modes::Mode;
 use rt_syntax::Control;

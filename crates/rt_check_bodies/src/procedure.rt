@@ -1,7 +1,7 @@
 //! A procedure's brick.
 
-ghost use Rattle.std.specs.Prelude.{◌≡◌, [], IfOk, IfErr, OnOk};
-ghost use Rattle.rt_exprs.specs.Outcomes.{IsLeast, IsAnswered, UnlessMemory};
+ghost use Rattle.std.specs.Prelude.{◌≡◌, ◌≤◌, [], IfOk, IfErr, OnOk, OnErr};
+ghost use Rattle.rt_check_faults.specs.Outcomes.{IsLeast, IsAnswered, UnlessMemory};
 ghost use Rattle.rt_check_declared.specs.Verdicts.{IsIn, GatheredCounts};
 ghost use Rattle.rt_check_bodies.specs.Procedures as spec;
 ghost use Rattle.rt_bricks.specs.Counted as counted;
@@ -14,7 +14,8 @@ use crate::statements::body;
 use crate::{Names, Tally, first_of};
 use rt_bricks::ProcedureBrick;
 use rt_check_declared::gathered_fault_counts;
-use rt_exprs::{CheckFault, Level};
+use rt_check_faults::CheckFault;
+use rt_exprs::{Level, small_number};
 use rt_grammar::At;
 use rt_tree::is_closed;
 use rt_tree_nodes::{Body, ProcBody};
@@ -64,17 +65,20 @@ fn finished(tally: Tally, brick: &ProcedureBrick, body: Body) -> Result<ProcBody
     ensures tree { IfOk result (λ made. made ≡ spec.proc_by brick.now (body, tally)) }
     ensures fit { IfOk result (λ _. tally.faults ≡ []) }
     ensures only { tally.faults ≡ [] → IsAnswered (spec.proc_by brick.now (body, tally)) result }
-    ensures fault { IfErr result (IsLeast (λ g. IsIn g tally.faults)) }
+    ensures fault { IfErr result (λ g. UnlessMemory g (IsLeast (λ h. IsIn h tally.faults) g)) }
 {
     match counted(&tally) {
         Some(fault) => Err(fault),
-        None => Ok(ProcBody {
-            locals: tally.locals,
-            labels: u32::from(tally.labels),
-            items: items_of(brick),
-            most: 0,
-            body,
-        }),
+        None => {
+            let items = items_of(brick)?;
+            Ok(ProcBody {
+                locals: tally.locals,
+                labels: u32::from(tally.labels),
+                items,
+                most: 0,
+                body,
+            })
+        }
     }
 }
 
@@ -121,15 +125,17 @@ fn is_wanted(answer: &Answer) -> bool
 }
 
 /// The items from PROC to ENDPROC, both counted.
-fn items_of(brick: &ProcedureBrick) -> u16
-    ensures { result ≡ counted.items_of brick.now }
+fn items_of(brick: &ProcedureBrick) -> Result<u16, Memory>
+    ensures number { IfOk result (λ n. n ≡ counted.items_of brick.now) }
+    ensures large { OnErr result (65536 ≤ counted.items_of brick.now) }
 {
     items_between(brick.opens.item, brick.ends.item)
 }
 
-fn items_between(opens: u16, ends: u16) -> u16
-    ensures { result ≡ counted.items_between opens ends }
+/// The items from one to another, both counted, where their number has 16 bits; more are answered as want of memory.
+fn items_between(opens: u16, ends: u16) -> Result<u16, Memory>
+    ensures number { IfOk result (λ n. n ≡ counted.items_between opens ends) }
+    ensures large { OnErr result (65536 ≤ counted.items_between opens ends) }
 {
-    let behind = u32::from(ends) + 65537;
-    ((behind - u32::from(opens)) % 65536) as u16
+    small_number((usize::from(ends) + 1).saturating_sub(usize::from(opens)))
 }

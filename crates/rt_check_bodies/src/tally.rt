@@ -1,12 +1,13 @@
 //! What has been counted, and the faults that have been noted.
 
 ghost use Rattle.std.specs.Prelude.{◌≡◌, ◌≢◌, ℕ, IfOk, OnOk};
-ghost use Rattle.rt_exprs.specs.declared.fault.CheckFault.TheVariants as kinds;
-ghost use Rattle.rt_exprs.specs.Outcomes.{Outcome, Gives};
+ghost use Rattle.rt_check_faults.specs.declared.fault.CheckFault.TheVariants as kinds;
+ghost use Rattle.rt_check_faults.specs.Outcomes.{Outcome, Gives};
 ghost use Rattle.rt_check_bodies.specs.Parts as spec;
 ghost use Rattle.rt_check_bodies.specs.Parts.{Gave};
 
-use rt_exprs::CheckFault;
+use rt_check_faults::CheckFault;
+use rt_exprs::small_number;
 use rt_modes::Mode;
 use rt_tree_nodes::{Local, Rel, Stat, Test, Value};
 use rt_words::{List, Memory};
@@ -56,12 +57,7 @@ impl Tally {
     pub fn next_local(&self) -> Result<u16, Memory>
         ensures { IfOk result (λ n. n ≡ spec.next_local self.now) }
     {
-        let count = self.locals.len();
-        if count < 65536 {
-            Ok(count as u16)
-        } else {
-            Err(Memory)
-        }
+        small_number(self.locals.len())
     }
 
     /// One more label.

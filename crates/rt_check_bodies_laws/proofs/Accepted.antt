@@ -45,14 +45,14 @@ use Rattle.rt_tree_nodes.specs.declared.value.Value.{Value}
 use Rattle.rt_tree_nodes.specs.declared.value.Value.TheVariants as values
 use Rattle.rt_tree_nodes.specs.Scopes.{Scope, with}
 use Rattle.rt_tree_nodes.specs.Typing.{suits, valued, placed as placed_in, assigned_mode}
-use Rattle.rt_exprs.specs.declared.fault.CheckFault.{CheckFault}
-use Rattle.rt_exprs.specs.declared.fault.CheckFault.TheVariants as fault
+use Rattle.rt_check_faults.specs.declared.fault.CheckFault.{CheckFault}
+use Rattle.rt_check_faults.specs.declared.fault.CheckFault.TheVariants as fault
 use Rattle.rt_exprs.specs.declared.scope.Meaning.TheVariants as meaning
-use Rattle.rt_exprs.specs.Outcomes.{Outcome, ◌>>=◌}
+use Rattle.rt_check_faults.specs.Outcomes.{Outcome, ◌>>=◌}
 use Rattle.rt_exprs.specs.Judging.{alone, target, val_target}
 use Rattle.rt_tree.specs.Modules.{local_stands}
 use Rattle.rt_tree.specs.Statements as tree
-use Rattle.rt_tree.specs.Statements.{Sight as Seen, Part as Fitting, Marked, Tested, next_by, sees, all_seen, is_call, declares, starts_at_zero, takes_three, stat_part, body_part, branch_part, marked, marked_part, tested, then_part, branches_in_order}
+use Rattle.rt_tree.specs.Statements.{Sight as Seen, Part as Fitting, Marked, next_by, sees, all_seen, declares, starts_at_zero, takes_three, stat_part, body_part, branch_part, marked, branches_in_order}
 use Rattle.rt_exprs_laws.specs.Agreeing.{IsValue}
 use Rattle.rt_syntax_exprs.specs.Joins.{joins_two}
 use Rattle.rt_exprs_laws.proofs.Passing.{passed_is_value}
@@ -66,13 +66,13 @@ use Rattle.rt_check_bodies.specs.declared.answer.Answer.TheVariants as answer
 use Rattle.rt_check_bodies.specs.declared.plain.Bounds.{Bounds}
 use Rattle.rt_bricks_laws.specs.Bodies.{sum, simple_labels, simple_stands, all, labels_in_simple, labels_in_body, labels_in_branch, labels_in_line, simple_is_broad, body_is_broad, branch_is_broad, line_is_broad}
 use Rattle.rt_check_bodies.specs.Statements as spec
-use Rattle.rt_check_bodies.specs.Statements.{Line, Declared, JudgedStat, JudgedBody, JudgedBranch, labels_at, before, declared_by, declarations, line_more, locals_more, local_more, local_fit, placed, start_in, with_ident, noted_in, branches, any_sequence, sequence, bounds_in, variable_of, for_loop, to_loop, int_in, any_int_in, goto, switch, returned, return_of}
+use Rattle.rt_check_bodies.specs.Statements.{Line, Declared, JudgedStat, JudgedBody, JudgedBranch, labels_at, before, declarations, line_more, locals_more, local_fit, placed, start_in, branches, sequence, bounds_in, variable_of, for_loop, to_loop, int_in, any_int_in, goto, switch, returned, return_of}
 use Rattle.rt_check_bodies_laws.proofs.Growing.{Pre, pre_then, pre_none, Grew, grew_same, grew_then, Growing, BranchesGrow, grow_found, grow_placed, grow_locals, grow_declarations, grow_sequence, grow_branches, grow_for, grow_to, grow_goto, grow_switch, grow_int, grow_any_int, grow_three, grow_labels_in}
 use Rattle.rt_check_bodies_laws.specs.Held.{EntryHolds, ResultIs}
 use Rattle.rt_check_bodies_laws.proofs.Knowing.{Certain}
 use Rattle.rt_check_bodies_laws.proofs.Certain.{value_certain, assign_certain, assign_val_certain, call_in_certain, test_certain, label_certain, returned_certain}
 use Rattle.rt_check_bodies_laws.proofs.Holding.{Shown, shown_within, shown_named, shown_knows, declared_holds, agrees, label_seen}
-use Rattle.rt_check_bodies_laws.proofs.Sequences.{settled, mode_found, one_is_there, one_longer, pre_length, pre_get, Fine, fine_before, Goes, Known, lines, lines_grow, total, sequence_fits}
+use Rattle.rt_check_bodies_laws.proofs.Sequences.{settled, mode_found, one_is_there, one_longer, pre_get, Fine, fine_before, Goes, Known, lines, lines_grow, total, sequence_fits}
 
 -- ---- answers
 

@@ -19,10 +19,10 @@ use Rattle.rt_tree_nodes.specs.declared.statement.Stat.{Stat}
 use Rattle.rt_tree_nodes.specs.declared.statement.Stat.TheFolds.{fold_out-Body as fold_out-Made}
 use Rattle.rt_tree_nodes.specs.Scopes.{Scope, with, passes, with_locals}
 use Rattle.rt_tree_nodes.proofs.Same.{same_itself}
-use Rattle.rt_exprs.specs.declared.fault.CheckFault.{CheckFault}
-use Rattle.rt_exprs.specs.declared.fault.CheckFault.TheVariants as fault
+use Rattle.rt_check_faults.specs.declared.fault.CheckFault.{CheckFault}
+use Rattle.rt_check_faults.specs.declared.fault.CheckFault.TheVariants as fault
 use Rattle.rt_exprs.specs.declared.scope.Meaning.TheVariants as meaning
-use Rattle.rt_exprs.specs.Outcomes.{Outcome}
+use Rattle.rt_check_faults.specs.Outcomes.{Outcome}
 use Rattle.rt_tree.specs.Modules.{local_stands, parameters_first, closes, first_sight, numbers_all, is_last, proc_fits}
 use Rattle.rt_tree.specs.Statements as tree
 use Rattle.rt_tree.specs.Statements.{Sight as Seen, Part as Fitting, next_by, Marked, labels_end, body_part, marked, closed, declares}
@@ -39,7 +39,7 @@ use Rattle.rt_check_bodies_laws.proofs.Growing.{Pre, pre_same, Grew, grew_same, 
 use Rattle.rt_check_bodies_laws.specs.Held.{Holds, LevelHolds, IsKnown, LevelKnown, AllKnown, ResultIs}
 use Rattle.rt_check_bodies_laws.proofs.Each.{declared_each}
 use Rattle.rt_check_bodies_laws.proofs.Holding.{shown_within, declared_holds}
-use Rattle.rt_check_bodies_laws.proofs.Sequences.{mode_found, one_is_there, pre_length, pre_get, Fine, fine_before}
+use Rattle.rt_check_bodies_laws.proofs.Sequences.{mode_found, one_is_there, pre_get, Fine, fine_before}
 use Rattle.rt_check_bodies_laws.proofs.Accepted.{local_value, body_accepted}
 
 grow_noted : (b : Bool) (g : CheckFault) (t : Tally) → Grew t (noted_if b g t)

@@ -1,6 +1,6 @@
 -- Where every name that is seen can be known, and the mode of each field, nothing is answered as what can't be known.
 use Rattle.std.proofs.Common.{◌≡◌, ℕ, ◌==◌, Bool, true, false, List, [], ◌∷◌, map, Option, Some, None, Ok, Err, if◌then◌else◌, refl, sym, ap, ◌∙◌, subst}
-use Rattle.std.specs.Prelude.{nat_lt, slice_get}
+use Rattle.std.specs.Prelude.{slice_get}
 use Rattle.rt_grammar.specs.declared.at.At.{At}
 use Rattle.rt_grammar.specs.declared.at.Ident.{Ident}
 use Rattle.rt_syntax_exprs.specs.declared.tree.Chain.{Chain, out-Chain}
@@ -19,15 +19,15 @@ use Rattle.rt_tree_nodes.specs.declared.statement.Test.TheVariants as tests
 use Rattle.rt_tree_nodes.specs.declared.value.Place.{Place}
 use Rattle.rt_tree_nodes.specs.declared.value.Value.{Value}
 use Rattle.rt_tree_nodes.specs.Scopes.{Scope as Tree}
-use Rattle.rt_exprs.specs.declared.fault.CheckFault.TheVariants as fault
+use Rattle.rt_check_faults.specs.declared.fault.CheckFault.TheVariants as fault
 use Rattle.rt_exprs.specs.declared.operand.Standing.TheVariants as standing
 use Rattle.rt_exprs.specs.declared.scope.Meaning.{Meaning}
 use Rattle.rt_exprs.specs.declared.scope.Meaning.TheVariants as meaning
 use Rattle.rt_exprs.specs.Sights.{Sight}
 use Rattle.rt_exprs.specs.Modes.{Want, want}
 use Rattle.rt_exprs.specs.Names.{find}
-use Rattle.rt_exprs.specs.Operands.{Is, place, loop, brick, result, done, Judged, field_in, field_from, as_word, is_label, suits_as, fits, by_itself}
-use Rattle.rt_exprs.specs.Outcomes.{Outcome, ◌>>=◌, both, after, is_unknown}
+use Rattle.rt_exprs.specs.Operands.{Is, place, loop, brick, result, done, Judged, field_in, is_label, suits_as, fits, by_itself}
+use Rattle.rt_check_faults.specs.Outcomes.{Outcome, ◌>>=◌, both, after, is_unknown}
 use Rattle.rt_exprs.specs.Judging.{judged, judged_chain, nowhere, begins_at, is_brick, is_whole, place_if, assigned_is, assigned, target, val, val_by, val_target, target_of, called_is, call_if, ends_in_apply, alone, compares, made_rel, compare_by, compare, all_from, cond_step, tested}
 use Rattle.rt_exprs_laws.specs.Agreeing.{HasItems, IsItem}
 use Rattle.rt_exprs_laws.proofs.Links.{field_found, item_of_all}
@@ -190,16 +190,9 @@ module _ (s : Sight) (a : Knows s) where
 
 -- ---- where names and tree agree
 
-as_word_is : (o : Option (ℕ × Mode)) (x : ℕ × Mode) → as_word o ≡ Some x → o ≡ Some x
-as_word_is None x e = absurd cc
-as_word_is (Some y) x e = by_size (nat_lt y.0 65536) e where
-  by_size : (b : Bool) → (if b then Some y else None) ≡ Some x → Some y ≡ Some x
-  by_size true q = q
-  by_size false q = absurd cc
-
 field_item : (r k : ℕ) (name : List ℕ) (m : Mode) (o : Option RecordDef) → ((d : RecordDef) → o ≡ Some d → HasItems d) → field_in o name ≡ Some (k, m) → IsItem m
 field_item r k name m None h e = absurd cc
-field_item r k name m (Some d) h e = let g = field_found 0 d.fields name (k, m) (as_word_is (field_from 0 d.fields name) (k, m) e) in item_of_all d.fields g.at m (h d refl) g.mode
+field_item r k name m (Some d) h e = let g = field_found 0 d.fields name (k, m) e in item_of_all d.fields g.at m (h d refl) g.mode
 
 -- what is an item has no LABEL
 pub no_label : (m : Mode) → IsItem m → is_label (out-Mode m) ≡ false

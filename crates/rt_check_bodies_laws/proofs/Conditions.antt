@@ -23,12 +23,12 @@ use Rattle.rt_tree_nodes.specs.declared.value.Value.{Value}
 use Rattle.rt_tree_nodes.specs.Scopes.{Scope}
 use Rattle.rt_tree_nodes.specs.Tree.{Cond, Is as Compared, Both, Either}
 use Rattle.rt_tree_nodes.specs.Typing.{placed}
-use Rattle.rt_exprs.specs.declared.fault.CheckFault.TheVariants as fault
+use Rattle.rt_check_faults.specs.declared.fault.CheckFault.TheVariants as fault
 use Rattle.rt_exprs.specs.declared.operand.Standing.TheVariants as standing
 use Rattle.rt_exprs.specs.Sights.{Sight}
 use Rattle.rt_exprs.specs.Modes.{Want, basic, ref, row, want, want_by}
 use Rattle.rt_exprs.specs.Operands.{Is, text, place, loop, result, done}
-use Rattle.rt_exprs.specs.Outcomes.{Outcome}
+use Rattle.rt_check_faults.specs.Outcomes.{Outcome}
 use Rattle.rt_exprs.specs.Fitting as f
 use Rattle.rt_exprs.specs.Fitting.{Assigns, AssignsVal, CallIs, TestIs, TestsAre}
 use Rattle.rt_exprs.specs.Judging.{compares, made_rel, reference_in, place_compares, result_compares, base_in, frac_or_int, place_if, assigned_is, called_is, is_whole}

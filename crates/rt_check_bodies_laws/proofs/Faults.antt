@@ -36,12 +36,12 @@ use Rattle.rt_tree_nodes.specs.declared.statement.Test.{Test}
 use Rattle.rt_tree_nodes.specs.declared.value.Value.{Value}
 use Rattle.rt_tree_nodes.specs.declared.value.Value.TheVariants as values
 use Rattle.rt_tree.specs.Statements.{closed}
-use Rattle.rt_exprs.specs.declared.fault.CheckFault.{CheckFault}
-use Rattle.rt_exprs.specs.declared.fault.CheckFault.TheVariants as fault
+use Rattle.rt_check_faults.specs.declared.fault.CheckFault.{CheckFault}
+use Rattle.rt_check_faults.specs.declared.fault.CheckFault.TheVariants as fault
 use Rattle.rt_exprs.specs.declared.scope.Meaning.{Meaning}
 use Rattle.rt_exprs.specs.declared.scope.Meaning.TheVariants as meaning
 use Rattle.rt_exprs.specs.Names.{find}
-use Rattle.rt_exprs.specs.Outcomes.{Outcome, is_unknown}
+use Rattle.rt_check_faults.specs.Outcomes.{Outcome, is_unknown}
 use Rattle.rt_check_declared.specs.declared.site.Site.{Site}
 use Rattle.rt_check_declared.specs.declared.site.Site.TheVariants as site
 use Rattle.rt_check_declared.specs.declared.written.Resolved.{Resolved}
@@ -56,7 +56,7 @@ use Rattle.rt_check_bodies.specs.Procedures.{named, group, parameters, answer_in
 use Rattle.rt_exprs.specs.Sights.{Names, Sight, holds, innermost, within}
 use Rattle.rt_check_bodies.specs.Sights.{alone_in, value_in, assignment_in, val_assignment_in, call_in, test_in, label_in, variable_by, mode_in}
 use Rattle.rt_check_bodies.specs.Statements as spec
-use Rattle.rt_check_bodies.specs.Statements.{Line, Declared, JudgedStat, JudgedBody, JudgedBranch, labels_of, labels_at, labelled, in_order, sequence, start_in, start_alone, placed, local_more, locals_more, line_more, declarations, before, branches, bounds_in, variable_of, for_loop, to_loop, int_in, any_int_in, returned}
+use Rattle.rt_check_bodies.specs.Statements.{Line, Declared, JudgedStat, JudgedBody, JudgedBranch, labels_of, labels_at, labelled, in_order, sequence, start_in, start_alone, local_more, locals_more, line_more, declarations, before, branches, bounds_in, variable_of, for_loop, to_loop, int_in, any_int_in, returned}
 use Rattle.rt_check_bodies_laws.specs.Faults.{FaultsAreKnown}
 use Rattle.rt_check_bodies_laws.proofs.Knowing.{Certain, then_certain}
 use Rattle.rt_check_bodies_laws.proofs.Real.{real_left}

@@ -18,7 +18,7 @@ use Rattle.rt_tree_nodes.specs.declared.value.Value.TheVariants as values
 use Rattle.rt_tree_nodes.specs.Scopes.{Scope, field_mode}
 use Rattle.rt_tree_nodes.specs.Tree.{Term, Terms, ItemAt, Svc}
 use Rattle.rt_tree_nodes.specs.Typing.{Found as Placing, Variable, Shared, Private, kept, placed, valued, mode_at, dyadic_tree, terms_of}
-use Rattle.rt_exprs.specs.declared.fault.CheckFault.TheVariants as fault
+use Rattle.rt_check_faults.specs.declared.fault.CheckFault.TheVariants as fault
 use Rattle.rt_exprs.specs.declared.operand.Base.TheVariants as base
 use Rattle.rt_exprs.specs.declared.operand.Standing.{Standing}
 use Rattle.rt_exprs.specs.declared.operand.Standing.TheVariants as standing
@@ -28,7 +28,7 @@ use Rattle.rt_exprs.specs.Sights.{Sight}
 use Rattle.rt_exprs.specs.Modes.{Want, basic, want}
 use Rattle.rt_exprs.specs.Names.{find}
 use Rattle.rt_exprs.specs.Operands.{Is, brick, place, loop, Found, named, suits_by}
-use Rattle.rt_exprs.specs.Outcomes.{Outcome}
+use Rattle.rt_check_faults.specs.Outcomes.{Outcome}
 use Rattle.rt_exprs.specs.Fitting as f
 use Rattle.rt_exprs.specs.Fitting.{IsBy, ChainIs, Leads, Follows, FitsBy, FitEach}
 use Rattle.rt_tree.specs.Depth.{depth, arguments_depth}
@@ -152,7 +152,7 @@ module _ (c : Scope) where
     mutual
       pub is_within : {e : Expr} {g : Found} → IsBy s e g → Within c (in_expr e) g.is
       is_within {e = e} (f.is_number {n = n} {at = at} o) = omega (arith, number_items e n at o)
-      is_within {e = e} (f.is_text {t = t} {at = at} o p l) = omega (arith, text_items e t at o)
+      is_within {e = e} (f.is_text {t = t} {at = at} o p) = omega (arith, text_items e t at o)
       is_within {e = e} {g = g} (f.is_chain {c = h} o i) = as_many g.is (in_chain h) (in_expr e) (sym (chain_items_in e h o)) (chain_within i)
       is_within {e = e} (f.is_val {c = h} {at = at} {f = g} {p = p} {m = m} o i t) =
           as_many (place p m standing.Shared) (1 + in_chain h) (in_expr e) (sym (val_items e h at o)) (subst (TargetWithin c (1 + in_chain h)) t (target_within c g.is (in_chain h) (chain_typed s c agree i) (chain_within i)))

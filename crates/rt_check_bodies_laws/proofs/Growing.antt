@@ -11,9 +11,9 @@ use Rattle.rt_tree_nodes.specs.declared.brick.Local.{Local as Made}
 use Rattle.rt_tree_nodes.specs.declared.statement.Branch.{Branch as BranchMade}
 use Rattle.rt_tree_nodes.specs.declared.statement.Labelled.{Labelled}
 use Rattle.rt_tree_nodes.specs.declared.value.Value.{Value}
-use Rattle.rt_exprs.specs.declared.fault.CheckFault.{CheckFault}
-use Rattle.rt_exprs.specs.declared.fault.CheckFault.TheVariants as fault
-use Rattle.rt_exprs.specs.Outcomes.{Outcome}
+use Rattle.rt_check_faults.specs.declared.fault.CheckFault.{CheckFault}
+use Rattle.rt_check_faults.specs.declared.fault.CheckFault.TheVariants as fault
+use Rattle.rt_check_faults.specs.Outcomes.{Outcome}
 use Rattle.rt_check_bodies.specs.declared.tally.Tally.{Tally}
 use Rattle.rt_check_bodies.specs.Parts.{Part, it_is, ◌>>=◌, noted, noted_known, noted_if, with_local, next_local, number_next, found_or, label_or, mode_or, three_locals, label_more, labels_more, labels_in, numbers_from}
 use Rattle.rt_exprs.specs.Sights.{Names, Sight, within}

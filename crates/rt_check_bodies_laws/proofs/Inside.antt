@@ -33,7 +33,7 @@ use Rattle.rt_check_bodies.specs.Statements.{Line, Declared, JudgedBody, JudgedB
 use Rattle.rt_check_bodies_laws.specs.Held.{Holds, EntryHolds}
 use Rattle.rt_check_bodies_laws.proofs.Growing.{Pre, pre_then, grew_same, grew_then, Growing, BranchesGrow, grow_found, grow_declarations, grow_sequence, grow_branches, grow_for, grow_to}
 use Rattle.rt_check_bodies_laws.proofs.Holding.{holds_within, declared_holds}
-use Rattle.rt_check_bodies_laws.proofs.Sequences.{one_longer, pre_length, pre_get}
+use Rattle.rt_check_bodies_laws.proofs.Sequences.{one_longer, pre_get}
 use Rattle.rt_check_bodies_laws.specs.Parts.{SequenceWithin, StatementWithin}
 use Rattle.rt_check_bodies_laws.proofs.Good.{Around, StatGood, int_stays, int_locals, step_stays, step_locals, test_stays, test_locals}
 use Rattle.rt_check_bodies_laws.proofs.Least.{sum_listed}

@@ -1,6 +1,6 @@
 -- Where every name that is seen can be known, and the mode of each field, all that is judged is known, or has a fault.
 use Rattle.std.proofs.Common.{◌≡◌, ℕ, ◌==◌, Bool, true, false, List, [], ◌∷◌, map, length, Option, Some, None, Ok, Err, if◌then◌else◌, refl, sym, ◌∙◌, subst}
-use Rattle.std.specs.Prelude.{nat_lt, position}
+use Rattle.std.specs.Prelude.{position}
 use Rattle.std.specs.List.{AllByRecursion}
 use Rattle.rt_grammar.specs.declared.at.At.{At}
 use Rattle.rt_grammar.specs.declared.at.Ident.{Ident}
@@ -20,8 +20,8 @@ use Rattle.rt_tree_nodes.specs.declared.value.Place.{Place}
 use Rattle.rt_tree_nodes.specs.declared.value.Place.TheVariants as places
 use Rattle.rt_tree_nodes.specs.declared.value.Value.{Value}
 use Rattle.rt_tree_nodes.specs.declared.value.Value.TheVariants as values
-use Rattle.rt_exprs.specs.declared.fault.CheckFault.{CheckFault}
-use Rattle.rt_exprs.specs.declared.fault.CheckFault.TheVariants as fault
+use Rattle.rt_check_faults.specs.declared.fault.CheckFault.{CheckFault}
+use Rattle.rt_check_faults.specs.declared.fault.CheckFault.TheVariants as fault
 use Rattle.rt_exprs.specs.declared.operand.Base.{Base}
 use Rattle.rt_exprs.specs.declared.operand.Base.TheVariants as base
 use Rattle.rt_exprs.specs.declared.operand.Standing.{Standing}
@@ -31,8 +31,8 @@ use Rattle.rt_exprs.specs.declared.scope.Meaning.TheVariants as meaning
 use Rattle.rt_exprs.specs.Sights.{Sight}
 use Rattle.rt_exprs.specs.Modes.{Want, basic, want}
 use Rattle.rt_exprs.specs.Names.{find, text_by}
-use Rattle.rt_exprs.specs.Operands.{Is, place, computed, text, Judged, named, first_field, is_label, suits, suits_as, if_known, fits, by_itself}
-use Rattle.rt_exprs.specs.Outcomes.{Outcome, ◌>>=◌, both, after, is_unknown, sooner, or_fault, or_other}
+use Rattle.rt_exprs.specs.Operands.{Is, place, computed, Judged, named, first_field, is_label, suits, suits_as, if_known, fits, by_itself}
+use Rattle.rt_check_faults.specs.Outcomes.{Outcome, ◌>>=◌, both, after, is_unknown, sooner, or_fault, or_other}
 use Rattle.rt_exprs.specs.Judging.{seen_as, record_in, field_with, field_at, dot_by, dot_after, Reach, rows, calls, neither, reach, arguments_from, called, if_counted, counted, subscript, apply_by, all_alone, apply_after, walk, val_by, target_of, val, base_in, frac_or_int, takes, gives, made_monadic, array_in, length_of, monadic_by, monadic, of_int, right_takes, made_dyadic, computes, right_alone, left_first, dyadic, begun, chained, judged, linked, judged_chain}
 use Rattle.rt_check_bodies_laws.specs.Held.{IsKnown}
 use Rattle.rt_check_bodies_laws.proofs.Real.{real_left, suits_real}
@@ -102,10 +102,7 @@ made_sure (Err g) q e h = h
 
 text_sure : (at : At) (o : Option ℕ) → Sure (text_by at o)
 text_sure at None = refl
-text_sure at (Some n) = by_size (nat_lt n 65536) where
-  by_size : (b : Bool) → Sure (if b then Ok (seen_as true at (text n)) else Err (fault.WrongMode at))
-  by_size true = refl
-  by_size false = refl
+text_sure at (Some n) = refl
 
 led_sure : (at first : At) (k : Bool) (o : Option (Place × Mode)) → k ≡ true → Sure (val_by at first k o)
 led_sure at first k None e = refl

@@ -1,5 +1,5 @@
 -- Sequences stay within their items, where each of their statements does.
-use Rattle.std.proofs.Common.{◌≡◌, ℕ, ◌+◌, ◌<◌, ◌≤◌, Bool, true, false, List, [], ◌∷◌, ◌++◌, length, map, Option, Some, None, option_map, append_assoc, arith, refl, sym, ap, ◌∙◌, subst}
+use Rattle.std.proofs.Common.{◌≡◌, ℕ, ◌+◌, ◌≤◌, Bool, true, false, List, [], ◌∷◌, ◌++◌, length, map, Option, Some, None, option_map, append_assoc, arith, refl, sym, ap, ◌∙◌, subst}
 use Rattle.std.proofs.lemmas.List.{append-nil}
 use Rattle.rt_grammar.specs.declared.at.Ident.{Ident}
 use Rattle.rt_bricks_laws.specs.Counts.{sum}
@@ -7,14 +7,13 @@ use Rattle.rt_tree_nodes.specs.declared.statement.Labelled.{Labelled}
 use Rattle.rt_tree_nodes.specs.declared.statement.Stat.{Stat}
 use Rattle.rt_tree_nodes.specs.Scopes.{Scope}
 use Rattle.rt_tree_nodes.specs.Tree.{Seq}
-use Rattle.rt_exprs.specs.declared.fault.CheckFault.{CheckFault}
-use Rattle.rt_exprs.specs.declared.scope.Meaning.TheVariants as meaning
+use Rattle.rt_check_faults.specs.declared.fault.CheckFault.{CheckFault}
 use Rattle.rt_tree.specs.Statements.{Sight as Seen, labels_from, sight_with, marks, labelled_tree, sequence_tree}
 use Rattle.rt_check_bodies.specs.declared.tally.Tally.{Tally}
 use Rattle.rt_check_bodies.specs.Parts.{noted_if, label_more, labels_more, numbers_from}
 use Rattle.rt_exprs.specs.Sights.{Names, Sight, holds, within}
 use Rattle.rt_check_bodies.specs.Statements.{Line, labels_of, labels_at, labelled, in_order, sequence}
-use Rattle.rt_check_bodies_laws.specs.Held.{Holds, LevelHolds}
+use Rattle.rt_check_bodies_laws.specs.Held.{Holds}
 use Rattle.rt_check_bodies_laws.proofs.Growing.{Pre, pre_then, LineGrows, LinesGrow, grow_order}
 use Rattle.rt_check_bodies_laws.proofs.Holding.{holds_labelled}
 use Rattle.rt_check_bodies_laws.proofs.Sequences.{own, all_labels_done}

@@ -15,10 +15,10 @@ use Rattle.rt_tree_nodes.specs.declared.value.Value.{Value}
 use Rattle.rt_tree_nodes.specs.declared.value.Value.TheVariants as values
 use Rattle.rt_tree_nodes.specs.Scopes.{Scope}
 use Rattle.rt_tree_nodes.specs.Tree.{Seq, Then}
-use Rattle.rt_exprs.specs.declared.fault.CheckFault.{CheckFault}
-use Rattle.rt_exprs.specs.declared.fault.CheckFault.TheVariants as fault
+use Rattle.rt_check_faults.specs.declared.fault.CheckFault.{CheckFault}
+use Rattle.rt_check_faults.specs.declared.fault.CheckFault.TheVariants as fault
 use Rattle.rt_exprs.specs.declared.scope.Meaning.TheVariants as meaning
-use Rattle.rt_exprs.specs.Outcomes.{Outcome}
+use Rattle.rt_check_faults.specs.Outcomes.{Outcome}
 use Rattle.rt_tree.specs.Depth.{sequence_depth}
 use Rattle.rt_tree.specs.Statements.{Sight as Seen, starts_at_zero, start_tree, starts_tree}
 use Rattle.rt_tree.specs.Weights.{sequence_weight}
@@ -31,7 +31,7 @@ use Rattle.rt_check_bodies_laws.specs.Held.{Holds, EntryHolds}
 use Rattle.rt_check_bodies_laws.proofs.Accepted.{local_value}
 use Rattle.rt_check_bodies_laws.proofs.Growing.{Pre, pre_then, known_locals, grow_locals, grow_declarations}
 use Rattle.rt_check_bodies_laws.proofs.Holding.{holds_named}
-use Rattle.rt_check_bodies_laws.proofs.Sequences.{one_longer, pre_length, pre_get}
+use Rattle.rt_check_bodies_laws.proofs.Sequences.{one_longer, pre_get}
 use Rattle.rt_check_bodies_laws.specs.Parts.{StatementWithin}
 use Rattle.rt_check_bodies_laws.proofs.Good.{Around, found_locals, value_stays}
 use Rattle.rt_check_bodies_laws.proofs.Least.{sum_listed}

@@ -8,7 +8,7 @@ use Rattle.rt_tree_nodes.specs.declared.brick.Local.TheVariants as made
 use Rattle.rt_exprs.specs.declared.scope.Meaning.{Meaning}
 use Rattle.rt_exprs.specs.declared.scope.Meaning.TheVariants as meaning
 use Rattle.rt_exprs.specs.Names.{find}
-use Rattle.rt_exprs.specs.Outcomes.{Outcome, ◌>>=◌}
+use Rattle.rt_check_faults.specs.Outcomes.{Outcome, ◌>>=◌}
 use Rattle.rt_tree.specs.Modules.{local_stands}
 use Rattle.rt_check_declared.specs.declared.site.Site.TheVariants as site
 use Rattle.rt_check_declared.specs.declared.written.Resolved.TheVariants as resolved

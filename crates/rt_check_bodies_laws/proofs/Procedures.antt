@@ -12,9 +12,9 @@ use Rattle.rt_tree_nodes.specs.declared.brick.Local.TheVariants as made
 use Rattle.rt_tree_nodes.specs.declared.brick.ModuleParts.{ModuleParts}
 use Rattle.rt_tree_nodes.specs.declared.statement.Body.{Body as BodyMade}
 use Rattle.rt_tree_nodes.specs.Scopes.{Scope, scope_of, with_locals}
-use Rattle.rt_exprs.specs.declared.fault.CheckFault.{CheckFault}
-use Rattle.rt_exprs.specs.declared.fault.CheckFault.TheVariants as fault
-use Rattle.rt_exprs.specs.Outcomes.{Outcome}
+use Rattle.rt_check_faults.specs.declared.fault.CheckFault.{CheckFault}
+use Rattle.rt_check_faults.specs.declared.fault.CheckFault.TheVariants as fault
+use Rattle.rt_check_faults.specs.Outcomes.{Outcome}
 use Rattle.rt_tree.specs.Depth.{sequence_recovers}
 use Rattle.rt_tree.specs.Modules.{first_sight}
 use Rattle.rt_tree.specs.Statements.{Sight as Seen, closed}

@@ -6,12 +6,12 @@ use Rattle.rt_modes.specs.declared.mode.Mode.{Mode}
 use Rattle.rt_tree_nodes.specs.declared.value.Place.{Place}
 use Rattle.rt_tree_nodes.specs.declared.value.Value.{Value}
 use Rattle.rt_tree_nodes.specs.declared.value.Value.TheVariants as values
-use Rattle.rt_exprs.specs.declared.fault.CheckFault.{CheckFault}
-use Rattle.rt_exprs.specs.declared.fault.CheckFault.TheVariants as fault
+use Rattle.rt_check_faults.specs.declared.fault.CheckFault.{CheckFault}
+use Rattle.rt_check_faults.specs.declared.fault.CheckFault.TheVariants as fault
 use Rattle.rt_exprs.specs.declared.operand.Standing.{Standing}
 use Rattle.rt_exprs.specs.declared.operand.Standing.TheVariants as standing
 use Rattle.rt_exprs.specs.Modes.{Want, becomes}
-use Rattle.rt_exprs.specs.Outcomes.{is_before, is_unknown, or_fault, sooner}
+use Rattle.rt_check_faults.specs.Outcomes.{is_before, is_unknown, or_fault, sooner}
 use Rattle.rt_exprs.specs.Operands.{Is, number, text, brick, place, loop, result, computed, done, Found, suits, suits_by, refer, wants_reference}
 
 -- the one that counts of a fault and another is a fault

@@ -1,5 +1,5 @@
 -- A sequence in which no fault stands fits, where each of its statements does.
-use Rattle.std.proofs.Common.{◌≡◌, ℕ, suc, ◌+◌, ◌<◌, ◌≤◌, ◌==◌, ◌%◌, Bool, true, false, List, [], ◌∷◌, ◌++◌, length, map, Option, Some, None, option_map, Ok, Err, arith, append_assoc, refl, sym, ap, ◌∙◌, subst}
+use Rattle.std.proofs.Common.{◌≡◌, ℕ, suc, ◌+◌, ◌<◌, ◌≤◌, ◌==◌, Bool, true, false, List, [], ◌∷◌, ◌++◌, length, map, Option, Some, None, option_map, Ok, Err, arith, append_assoc, refl, sym, ap, ◌∙◌, subst}
 use Rattle.std.specs.Prelude.{slice_get}
 use Rattle.std.proofs.lemmas.List.{append-nil}
 use Rattle.std.proofs.lemmas.Bool.Decides.{nat_tests}
@@ -13,12 +13,12 @@ use Rattle.rt_tree_nodes.specs.declared.statement.Stat.{Stat}
 use Rattle.rt_tree_nodes.specs.declared.statement.Stat.TheFolds.{fold_out-Labelled}
 use Rattle.rt_tree_nodes.specs.declared.statement.Stat.TheOpen.{Labelled-F}
 use Rattle.rt_tree_nodes.specs.Scopes.{Scope, with}
-use Rattle.rt_exprs.specs.declared.fault.CheckFault.{CheckFault}
-use Rattle.rt_exprs.specs.declared.fault.CheckFault.TheVariants as fault
+use Rattle.rt_check_faults.specs.declared.fault.CheckFault.{CheckFault}
+use Rattle.rt_check_faults.specs.declared.fault.CheckFault.TheVariants as fault
 use Rattle.rt_exprs.specs.declared.scope.Meaning.TheVariants as meaning
-use Rattle.rt_exprs.specs.Outcomes.{Outcome, is_unknown}
+use Rattle.rt_check_faults.specs.Outcomes.{Outcome, is_unknown}
 use Rattle.rt_tree.specs.Statements as tree
-use Rattle.rt_tree.specs.Statements.{Sight as Seen, Part as Fitting, Marked, next_by, counted, labels_end, labels_from, sight_with, then_part, stat_part, marked, marked_part}
+use Rattle.rt_tree.specs.Statements.{Sight as Seen, Part as Fitting, Marked, next_by, counted, labels_end, labels_from, sight_with, stat_part, marked, marked_part}
 use Rattle.rt_check_bodies.specs.declared.tally.Tally.{Tally}
 use Rattle.rt_check_bodies.specs.Parts.{found_or, mode_or, noted_known, noted_if, noted_twice, with_label, behind, labels_more, numbers_from}
 use Rattle.rt_exprs.specs.Sights.{Names, Sight, holds, declared, within}

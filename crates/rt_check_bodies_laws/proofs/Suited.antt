@@ -12,7 +12,7 @@ use Rattle.rt_tree_nodes.specs.declared.value.Value.TheVariants as values
 use Rattle.rt_tree_nodes.specs.Scopes.{Scope}
 use Rattle.rt_tree_nodes.specs.Tree.{Path}
 use Rattle.rt_tree_nodes.specs.Typing.{Variable, Shared, OnLocal, OnPath, kept, placed, is_value, mode_at, reference_path}
-use Rattle.rt_exprs.specs.declared.fault.CheckFault.TheVariants as fault
+use Rattle.rt_check_faults.specs.declared.fault.CheckFault.TheVariants as fault
 use Rattle.rt_exprs.specs.declared.operand.Base.{Base}
 use Rattle.rt_exprs.specs.declared.operand.Base.TheVariants as base
 use Rattle.rt_exprs.specs.declared.operand.Standing.{Standing}
@@ -20,7 +20,7 @@ use Rattle.rt_exprs.specs.declared.operand.Standing.TheVariants as standing
 use Rattle.rt_exprs.specs.Following.{Becomes, followed_to, widened, refs, followed}
 use Rattle.rt_exprs.specs.Modes.{Want, basic, want, becomes, basic_becomes, is_ref, is_int, only_if}
 use Rattle.rt_exprs.specs.Operands.{Is, number, text, brick, place, loop, result, computed, done, suits_by, refer, wants_reference}
-use Rattle.rt_exprs.specs.Outcomes.{or_fault}
+use Rattle.rt_check_faults.specs.Outcomes.{or_fault}
 use Rattle.rt_exprs.proofs.Following.{becomes_follows}
 use Rattle.rt_tree.specs.Depth.{depth, address_depth}
 use Rattle.rt_tree.specs.Weights.{read_weight, term_weight, path_weight}

@@ -1,8 +1,8 @@
 -- What stands in a procedure is a fault.
 use Rattle.std.specs.Prelude.{◌≡◌, false}
 use Rattle.rt_bricks.specs.declared.tree.ProcedureBrick.{ProcedureBrick}
-use Rattle.rt_exprs.specs.declared.fault.CheckFault.{CheckFault}
-use Rattle.rt_exprs.specs.Outcomes.{is_unknown}
+use Rattle.rt_check_faults.specs.declared.fault.CheckFault.{CheckFault}
+use Rattle.rt_check_faults.specs.Outcomes.{is_unknown}
 use Rattle.rt_exprs.specs.Sights.{Sight}
 use Rattle.rt_check_bodies.specs.Procedures.{Stands}
 

@@ -1,10 +1,9 @@
 -- The fault that counts of several kinds of faults.
 use Rattle.std.proofs.Common.{◌≡◌, ◌⊎◌, inl, inr, Bool, true, false, List, Option, Some, None, refl, sym, subst}
-use Rattle.rt_exprs.specs.declared.fault.CheckFault.{CheckFault}
-use Rattle.rt_exprs.specs.Outcomes.{IsLeast, sooner, is_before}
+use Rattle.rt_check_faults.specs.declared.fault.CheckFault.{CheckFault}
+use Rattle.rt_check_faults.specs.Outcomes.{IsLeast, sooner, is_before}
 use Rattle.rt_check_declared.specs.Verdicts.{IsIn, with_faults, GatheredCounts}
-use Rattle.rt_exprs.proofs.Counting.{before_through, before_turned}
-use Rattle.rt_check_declared.proofs.Joins.{sooner_yes, sooner_no}
+use Rattle.rt_check_faults.proofs.Counting.{before_through, before_turned, sooner_yes, sooner_no}
 use Rattle.rt_check_declared.proofs.Least.{gathers_least}
 use Rattle.rt_check_declared.specs.Heads.{noted}
 use Rattle.rt_check_declared.specs.Records.{Counts}

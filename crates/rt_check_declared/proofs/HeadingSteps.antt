@@ -17,7 +17,7 @@ use Rattle.rt_check_declared.specs.Parts.{line_by, part, line_faults, is_recover
 use Rattle.rt_check_declared.specs.declared.parts.Line.TheVariants as line
 use Rattle.rt_modes.specs.declared.mode.Mode.TheVariants as mode
 use Rattle.rt_modes.specs.declared.mode.Field.{Field}
-use Rattle.rt_exprs.specs.declared.fault.CheckFault.{CheckFault}
+use Rattle.rt_check_faults.specs.declared.fault.CheckFault.{CheckFault}
 use Rattle.rt_check_declared.specs.Fields.{faults_by, written_fields, mode_faults}
 use Rattle.rt_check_declared.specs.Heads.{noted}
 use Rattle.rt_check_declared.proofs.RecordSteps.{drop_next, more_faults, first_noted, noted_some}

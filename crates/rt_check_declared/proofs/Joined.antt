@@ -4,14 +4,14 @@ use Rattle.std.specs.Prelude.{IsTrue, is_none}
 use Rattle.rt_bricks.specs.declared.tree.Declaration.{Declaration}
 use Rattle.rt_bricks.specs.declared.tree.RecordMode.{RecordMode}
 use Rattle.rt_modes.specs.declared.mode.RecordDef.{RecordDef}
-use Rattle.rt_exprs.specs.declared.fault.CheckFault.{CheckFault}
-use Rattle.rt_exprs.specs.Outcomes.{IsLeast, sooner, is_before}
+use Rattle.rt_check_faults.specs.declared.fault.CheckFault.{CheckFault}
+use Rattle.rt_check_faults.specs.Outcomes.{IsLeast, sooner, is_before}
 use Rattle.rt_sizes.specs.Capped.{AreSizes, table}
 use Rattle.rt_sizes.specs.Sizes.{Table}
 use Rattle.rt_sizes.specs.declared.size.Size.{Size}
 use Rattle.rt_check_declared.specs.Verdicts.{IsIn, with_fault, with_faults, GatheredCounts}
 use Rattle.rt_check_declared.specs.Written.{Names}
-use Rattle.rt_exprs.proofs.Counting.{before_through}
+use Rattle.rt_check_faults.proofs.Counting.{before_through}
 use Rattle.rt_check_declared.proofs.Least.{gathers_least}
 use Rattle.rt_check_declared.specs.declared.records.Head.{Head}
 use Rattle.rt_check_declared.specs.Heads.{head, heads, definitions, all_noted, all_known}

@@ -4,15 +4,15 @@ use Rattle.std.specs.Prelude.{IsTrue, ◌↔◌}
 use Rattle.rt_bricks.specs.declared.tree.RecordMode.{RecordMode}
 use Rattle.rt_grammar.specs.declared.at.At.{At}
 use Rattle.rt_grammar.specs.declared.at.Ident.{Ident}
-use Rattle.rt_exprs.specs.declared.fault.CheckFault.{CheckFault}
-use Rattle.rt_exprs.specs.declared.fault.CheckFault.TheVariants as fault
-use Rattle.rt_exprs.specs.Outcomes.{IsLeast, is_before}
+use Rattle.rt_check_faults.specs.declared.fault.CheckFault.{CheckFault}
+use Rattle.rt_check_faults.specs.declared.fault.CheckFault.TheVariants as fault
+use Rattle.rt_check_faults.specs.Outcomes.{IsLeast, is_before}
 use Rattle.rt_sizes.specs.Containing.{Contains}
 use Rattle.rt_sizes.specs.Sizes.{Table, PassWith}
 use Rattle.rt_check_declared.specs.declared.site.Site.TheVariants as site
 use Rattle.rt_check_declared.specs.Verdicts.{IsIn, with_faults, GatheredCounts}
 use Rattle.rt_check_declared.specs.Written.{Names}
-use Rattle.rt_exprs.proofs.Counting.{before_same}
+use Rattle.rt_check_faults.proofs.Counting.{before_same}
 use Rattle.rt_check_declared.proofs.Counted.{Either, either_counts, gathered_counts, counts_as}
 use Rattle.rt_check_declared.proofs.Least.{gathers_least}
 use Rattle.rt_check_declared.specs.Fields.{written_fields, idents}

@@ -8,9 +8,9 @@ use Rattle.rt_check_declared.specs.Totals.{with_field, all_fields, LargeFault, t
 use Rattle.rt_check_declared.specs.Totaling.{IsPassing, fault_of, fault_at}
 use Rattle.rt_modes.specs.declared.mode.Field.{Field}
 use Rattle.rt_modes.specs.declared.mode.Mode.{Mode}
-use Rattle.rt_exprs.specs.declared.fault.CheckFault.{CheckFault}
-use Rattle.rt_exprs.specs.declared.fault.CheckFault.TheVariants as fault
-use Rattle.rt_exprs.specs.Outcomes.{is_before}
+use Rattle.rt_check_faults.specs.declared.fault.CheckFault.{CheckFault}
+use Rattle.rt_check_faults.specs.declared.fault.CheckFault.TheVariants as fault
+use Rattle.rt_check_faults.specs.Outcomes.{is_before}
 use Rattle.rt_check_declared.specs.Records.{Counts}
 use Rattle.rt_check_declared.proofs.Judged.{before_itself}
 use Rattle.rt_check_declared.proofs.RecordSteps.{drop_next}

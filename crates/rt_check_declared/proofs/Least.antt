@@ -1,12 +1,11 @@
 -- The fault that is answered counts of all that stand.
 use Rattle.std.proofs.Common.{◌≡◌, Bool, true, false, List, [], ◌∷◌, Option, Some, None, Result, Ok, Err, inl, inr, refl, sym, ap, ◌∙◌, subst}
 use Rattle.std.specs.Prelude.{IfOk, IfErr, IsTrue}
-use Rattle.rt_exprs.specs.declared.fault.CheckFault.{CheckFault}
-use Rattle.rt_exprs.specs.Outcomes.{Outcome, sooner, is_before, UnlessMemory, IsLeast, IsAnswered}
+use Rattle.rt_check_faults.specs.declared.fault.CheckFault.{CheckFault}
+use Rattle.rt_check_faults.specs.Outcomes.{Outcome, sooner, is_before, UnlessMemory, IsLeast, IsAnswered}
 use Rattle.rt_check_declared.specs.Verdicts.{Verdict, fit, unfit, first_of, outcome, IsIn, Stands, Answers, with_faults, GatheredCounts, GathersLeast}
-use Rattle.rt_check_declared.proofs.Joins.{sooner_yes, sooner_no, sooner_assoc}
-use Rattle.rt_exprs.proofs.Joins.{told, given, free}
-use Rattle.rt_exprs.proofs.Counting.{before_same, before_through, before_turned}
+use Rattle.rt_check_faults.proofs.Counting.{sooner_yes, sooner_no, sooner_assoc, before_same, before_through, before_turned}
+use Rattle.rt_check_faults.proofs.Joins.{told, given, free}
 
 stands_by : (f x : CheckFault) (gs : List CheckFault) (b : Bool) → is_before f x ≡ b → IsIn x gs → IsIn (sooner f x) (f ∷ gs)
 stands_by f x gs true e k = inl (sooner_yes f x e)

@@ -5,14 +5,14 @@ use Rattle.rt_grammar.specs.declared.at.Ident.{Ident}
 use Rattle.rt_bricks.specs.declared.tree.Fields.{Fields}
 use Rattle.rt_modes.specs.declared.mode.Field.{Field}
 use Rattle.rt_modes.specs.declared.mode.Mode.TheVariants as mode
-use Rattle.rt_exprs.specs.declared.fault.CheckFault.{CheckFault}
-use Rattle.rt_exprs.specs.declared.fault.CheckFault.TheVariants.{Memory, UnknownName, WrongMode, NotAssignable, WrongCount, RefOfLocal, LeftOut, DeclaredTwice, BadStart, UnknownLabel, NoResult, Unknown}
-use Rattle.rt_exprs.specs.Outcomes.{Outcome, UnlessMemory, sooner}
+use Rattle.rt_check_faults.specs.declared.fault.CheckFault.{CheckFault}
+use Rattle.rt_check_faults.specs.declared.fault.CheckFault.TheVariants.{Memory, UnknownName, WrongMode, NotAssignable, WrongCount, RefOfLocal, LeftOut, DeclaredTwice, BadStart, UnknownLabel, NoResult, Unknown}
+use Rattle.rt_check_faults.specs.Outcomes.{Outcome, UnlessMemory, sooner}
 use Rattle.rt_check_declared.specs.declared.site.Site.{Site}
 use Rattle.rt_check_declared.specs.declared.written.Resolved.{Resolved}
 use Rattle.rt_check_declared.specs.Verdicts.{Verdict, fit, unfit, first_of, outcome, with_fault, with_faults}
 use Rattle.rt_check_declared.specs.Written.{Names, written}
-use Rattle.rt_check_declared.proofs.Joins.{sooner_assoc}
+use Rattle.rt_check_faults.proofs.Counting.{sooner_assoc}
 use Rattle.rt_bricks.specs.declared.tree.Declaration.{Declaration}
 use Rattle.rt_bricks.specs.declared.tree.Declaration.TheVariants as declares
 use Rattle.rt_bricks.specs.declared.tree.RecordMode.{RecordMode}

@@ -5,8 +5,8 @@ use Rattle.rt_bricks.specs.declared.tree.Fields.{Fields}
 use Rattle.rt_modes.specs.declared.mode.Field.{Field}
 use Rattle.rt_modes.specs.declared.mode.Mode.{Mode}
 use Rattle.rt_modes.specs.declared.mode.Mode.TheVariants as mode
-use Rattle.rt_exprs.specs.declared.fault.CheckFault.{CheckFault}
-use Rattle.rt_exprs.specs.declared.fault.CheckFault.TheVariants as fault
+use Rattle.rt_check_faults.specs.declared.fault.CheckFault.{CheckFault}
+use Rattle.rt_check_faults.specs.declared.fault.CheckFault.TheVariants as fault
 use Rattle.rt_check_declared.specs.declared.site.Site.{Site}
 use Rattle.rt_check_declared.specs.declared.written.Resolved.{Resolved}
 use Rattle.rt_check_declared.specs.declared.written.Resolved.TheVariants as resolved

@@ -1,10 +1,10 @@
 -- What is kept of each MODE while the records are read.
 use Rattle.std.specs.Prelude.{ℕ, slice_get, Bool, true, false, List, [], ◌∷◌, map, Option, Some, None, is_none}
 use Rattle.rt_grammar.specs.declared.at.At.{At}
-use Rattle.rt_exprs.specs.declared.fault.CheckFault.TheVariants as fault
+use Rattle.rt_check_faults.specs.declared.fault.CheckFault.TheVariants as fault
 use Rattle.rt_bricks.specs.declared.tree.RecordMode.{RecordMode}
 use Rattle.rt_modes.specs.declared.mode.RecordDef.{RecordDef}
-use Rattle.rt_exprs.specs.declared.fault.CheckFault.{CheckFault}
+use Rattle.rt_check_faults.specs.declared.fault.CheckFault.{CheckFault}
 use Rattle.rt_check_declared.specs.Verdicts.{with_fault, with_faults}
 use Rattle.rt_check_declared.specs.Written.{Names}
 use Rattle.rt_check_declared.specs.declared.records.Head.{Head}

@@ -2,8 +2,8 @@
 use Rattle.std.specs.Prelude.{ℕ, ◌+◌, if◌then◌else◌, List, [], ◌∷◌, ◌++◌, map, Option, None}
 use denote.Bor.{Bor}
 use Rattle.rt_bricks.specs.declared.tree.Declaration.{Declaration}
-use Rattle.rt_exprs.specs.declared.fault.CheckFault.{CheckFault}
-use Rattle.rt_exprs.specs.declared.fault.CheckFault.TheVariants as fault
+use Rattle.rt_check_faults.specs.declared.fault.CheckFault.{CheckFault}
+use Rattle.rt_check_faults.specs.declared.fault.CheckFault.TheVariants as fault
 use Rattle.rt_check_declared.specs.Verdicts.{with_fault}
 use Rattle.rt_check_declared.specs.declared.names.Declared.{Declared}
 use Rattle.rt_check_declared.specs.declared.names.ModuleNames.{ModuleNames}

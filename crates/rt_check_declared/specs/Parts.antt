@@ -11,10 +11,9 @@ use Rattle.rt_check_declared.specs.declared.site.Site.TheVariants as site
 use Rattle.rt_bricks.specs.declared.tree.DataLine.{DataLine}
 use Rattle.rt_bricks.specs.declared.tree.Fields.{Fields}
 use Rattle.rt_check_declared.specs.Names.{idents}
-use Rattle.rt_grammar.specs.declared.at.At.{At}
 use Rattle.rt_grammar.specs.declared.at.Ident.{Ident}
-use Rattle.rt_exprs.specs.declared.fault.CheckFault.{CheckFault}
-use Rattle.rt_exprs.specs.declared.fault.CheckFault.TheVariants as fault
+use Rattle.rt_check_faults.specs.declared.fault.CheckFault.{CheckFault}
+use Rattle.rt_check_faults.specs.declared.fault.CheckFault.TheVariants as fault
 use Rattle.rt_check_declared.specs.Fields.{faults_by}
 use Rattle.rt_check_declared.specs.declared.written.Resolved.{Resolved}
 use Rattle.rt_check_declared.specs.declared.written.Resolved.TheVariants as resolved

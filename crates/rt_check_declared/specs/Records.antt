@@ -1,14 +1,14 @@
 -- The records of a module, and the faults of their declarations.
-use Rattle.std.specs.Prelude.{◌≡◌, ℕ, Bool, true, false, List, [], ◌∷◌, ◌++◌, length, map, Option, Some, None, slice_get}
+use Rattle.std.specs.Prelude.{◌≡◌, ℕ, Bool, true, false, List, [], ◌∷◌, length, map, Option, Some, None, slice_get}
 use Rattle.rt_grammar.specs.declared.at.Ident.{Ident}
 use Rattle.rt_bricks.specs.declared.tree.Declaration.{Declaration}
 use Rattle.rt_bricks.specs.declared.tree.Declaration.TheVariants as declares
 use Rattle.rt_bricks.specs.declared.tree.RecordMode.{RecordMode}
 use Rattle.rt_check_declared.specs.Names.{second_fields}
 use Rattle.rt_modes.specs.declared.mode.RecordDef.{RecordDef}
-use Rattle.rt_exprs.specs.declared.fault.CheckFault.{CheckFault}
-use Rattle.rt_exprs.specs.declared.fault.CheckFault.TheVariants as fault
-use Rattle.rt_exprs.specs.Outcomes.{IsLeast}
+use Rattle.rt_check_faults.specs.declared.fault.CheckFault.{CheckFault}
+use Rattle.rt_check_faults.specs.declared.fault.CheckFault.TheVariants as fault
+use Rattle.rt_check_faults.specs.Outcomes.{IsLeast}
 use Rattle.rt_sizes.specs.Containing.{Contains}
 use Rattle.rt_sizes.specs.Sizes.{Table, PassWith}
 use Rattle.rt_check_declared.specs.declared.site.Site.TheVariants as site

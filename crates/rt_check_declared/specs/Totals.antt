@@ -4,8 +4,8 @@ use Rattle.rt_check_declared.specs.declared.parts.Given.{Given}
 use Rattle.rt_check_declared.specs.declared.parts.Given.TheVariants as given
 use Rattle.rt_check_declared.specs.declared.parts.Part.{Part}
 use Rattle.rt_modes.specs.declared.mode.Field.{Field}
-use Rattle.rt_exprs.specs.declared.fault.CheckFault.{CheckFault}
-use Rattle.rt_exprs.specs.declared.fault.CheckFault.TheVariants as fault
+use Rattle.rt_check_faults.specs.declared.fault.CheckFault.{CheckFault}
+use Rattle.rt_check_faults.specs.declared.fault.CheckFault.TheVariants as fault
 use Rattle.rt_sizes.specs.Sizes.{Table, PassWith}
 
 abbrev pub with_field : List ℕ → Given → Option (List Field) → Option (List Field)

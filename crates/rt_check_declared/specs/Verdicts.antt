@@ -1,8 +1,7 @@
 -- What a node is where it is fit, or else the faults that stand in it.
 use Rattle.std.specs.Prelude.{◌≡◌, ◌⊎◌, Option, Some, None, List, [], ◌∷◌, ◌++◌, Result, Ok, Err}
-use Rattle.rt_exprs.specs.declared.fault.CheckFault.{CheckFault}
-use Rattle.rt_exprs.specs.Outcomes.{Outcome, sooner, Gives}
-use Rattle.rt_exprs.specs.Outcomes.{IsLeast}
+use Rattle.rt_check_faults.specs.declared.fault.CheckFault.{CheckFault}
+use Rattle.rt_check_faults.specs.Outcomes.{Outcome, sooner, Gives, IsLeast}
 
 -- A fit node is something; in an unfit one a fault stands, and perhaps others.
 pub data Verdict (A : Type 0) : Type 0 where

@@ -14,7 +14,8 @@ use crate::{Site, either, note};
 use rt_bricks::{
     DataBrick, Declaration, Import, ImportedData, ImportedProcedures, ProcedureBrick, StackBrick,
 };
-use rt_exprs::{CheckFault, Level};
+use rt_check_faults::CheckFault;
+use rt_exprs::Level;
 use rt_grammar::Ident;
 use rt_tree_nodes::Kind;
 use rt_words::{List, Memory, Name};

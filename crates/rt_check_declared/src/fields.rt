@@ -9,7 +9,8 @@ ghost use Rattle.rt_check_declared.specs.Written.{written};
 
 use crate::{Resolved, Site, note, resolve};
 use rt_bricks::Fields;
-use rt_exprs::{CheckFault, Level};
+use rt_check_faults::CheckFault;
+use rt_exprs::Level;
 use rt_grammar::Ident;
 use rt_modes::{Field, Mode};
 use rt_tree_nodes::copy_mode;

@@ -3,7 +3,7 @@
 ghost use Rattle.std.specs.Prelude.{◌≡◌};
 ghost use Rattle.rt_check_declared.specs.Verdicts.{with_fault, GathersLeast};
 
-use rt_exprs::CheckFault;
+use rt_check_faults::CheckFault;
 
 /// Keeps the one that counts of the faults so far and one more.
 pub fn note(faults: &mut Option<CheckFault>, fault: CheckFault)

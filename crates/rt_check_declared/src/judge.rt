@@ -10,7 +10,7 @@ ghost use Rattle.rt_sizes.specs.Capped.{AreSizes, table};
 ghost use Rattle.rt_check_declared.specs.Written.{Names};
 
 use crate::records::{Head, either};
-use rt_exprs::CheckFault;
+use rt_check_faults::CheckFault;
 use rt_grammar::At;
 use rt_modes::{Field, RecordDef};
 use rt_sizes::{Size, contains_itself, passing_field};

@@ -8,7 +8,7 @@ ghost use Rattle.rt_check_declared.specs.Verdicts.{with_faults};
 use crate::note;
 use indexmap::IndexMap;
 use rt_bricks::{DataItem, DataLine, Declaration, Fields};
-use rt_exprs::CheckFault;
+use rt_check_faults::CheckFault;
 use rt_grammar::Ident;
 use rt_words::Memory;
 use std::alloc::Global;

@@ -11,7 +11,8 @@ ghost use Rattle.rt_check_declared.specs.Written.{written};
 
 use crate::{Resolved, Site, note, resolve};
 use rt_bricks::{DataItem, DataLine, Fields, Import};
-use rt_exprs::{CheckFault, Level};
+use rt_check_faults::CheckFault;
+use rt_exprs::Level;
 use rt_grammar::{At, Ident};
 use rt_modes::Mode;
 use rt_syntax_exprs::{BasicMode, WrittenMode};

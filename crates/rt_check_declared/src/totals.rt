@@ -8,7 +8,7 @@ ghost use Rattle.rt_sizes.specs.Capped.{AreSizes};
 ghost use Rattle.rt_sizes.specs.Sizes.{Table};
 
 use crate::parts::{Given, Part};
-use rt_exprs::CheckFault;
+use rt_check_faults::CheckFault;
 use rt_modes::Field;
 use rt_sizes::{Size, passing_field};
 use rt_tree_nodes::copy_mode;

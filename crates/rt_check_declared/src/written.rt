@@ -3,14 +3,15 @@
 ghost use Rattle.std.specs.Prelude.{◌≡◌, [], List, Option, map, option_map, IfOk, IfErr};
 ghost use Rattle.std.specs.Option.{option_copied};
 ghost use Rattle.rt_modes.specs.declared.mode.Mode.{out-Mode};
-ghost use Rattle.rt_exprs.specs.Outcomes.{UnlessMemory, IsLeast, IsAnswered};
+ghost use Rattle.rt_check_faults.specs.Outcomes.{UnlessMemory, IsLeast, IsAnswered};
 ghost use Rattle.rt_exprs.specs.Names.{find_in};
 ghost use Rattle.rt_check_declared.specs.Verdicts.{Verdict, fit, Stands, Answers, all_from};
 ghost use Rattle.rt_check_declared.specs.Written as spec;
 
 use crate::join::{after, both};
 use crate::site::Site;
-use rt_exprs::{CheckFault, Level, Meaning, find_name};
+use rt_check_faults::CheckFault;
+use rt_exprs::{Level, Meaning, find_name};
 use rt_grammar::At;
 use rt_modes::Mode;
 use rt_syntax_exprs::{BasicMode, WrittenMode};

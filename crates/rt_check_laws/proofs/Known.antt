@@ -22,13 +22,13 @@ use Rattle.rt_modes.specs.declared.mode.Mode.{Mode, out-Mode}
 use Rattle.rt_modes.specs.declared.mode.Mode.TheOpen.{Mode-F}
 use Rattle.rt_modes.specs.declared.mode.RecordDef.{RecordDef}
 use Rattle.rt_tree.specs.Modules.{place_starts}
-use Rattle.rt_exprs.specs.declared.fault.CheckFault.{CheckFault}
-use Rattle.rt_exprs.specs.declared.fault.CheckFault.TheVariants as fault
+use Rattle.rt_check_faults.specs.declared.fault.CheckFault.{CheckFault}
+use Rattle.rt_check_faults.specs.declared.fault.CheckFault.TheVariants as fault
 use Rattle.rt_exprs.specs.declared.scope.Meaning.{Meaning}
 use Rattle.rt_exprs.specs.declared.scope.Meaning.TheVariants as meaning
 use Rattle.rt_exprs.specs.Names.{find}
 use Rattle.rt_exprs.specs.Operands.{first_field, is_label}
-use Rattle.rt_exprs.specs.Outcomes.{is_unknown}
+use Rattle.rt_check_faults.specs.Outcomes.{is_unknown}
 use Rattle.rt_exprs.specs.Sights.{Sight}
 use Rattle.rt_sizes.specs.Sizes.{Table}
 use Rattle.rt_check_declared.specs.declared.bricks.Heading.{Heading}
@@ -54,7 +54,7 @@ use Rattle.rt_check_starts.specs.Bricks.{BrickFault, in_items, in_whole}
 use Rattle.rt_check_starts.specs.Defaults.{has_default}
 use Rattle.rt_check_starts.specs.Items as starts
 use Rattle.rt_check_starts.specs.Places.{Step, leads, lost, hidden, nowhere, element, leads_unless, field_by, Reached, place, unknown, unseen, no_place, on, field, step, along}
-use Rattle.rt_check_starts.specs.Places.{Found, not_known, procedure, shared, private, other, shared_by, private_by, by_itself, supplied, found, unfit_faults, private_faults}
+use Rattle.rt_check_starts.specs.Places.{Found, not_known, procedure, shared, private, other, shared_by, private_by, by_itself, found, unfit_faults, private_faults}
 use Rattle.rt_check_starts.specs.Places as places
 use Rattle.rt_check_starts.specs.Starts.{Written, Wanted, elements, fields, nothing, wanted, in_each, in_all, in_fields as in_these, in_parts, all_unknown, written_layer, written_in}
 use Rattle.rt_check_starts.specs.Starts as start

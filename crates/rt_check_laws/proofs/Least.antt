@@ -6,12 +6,11 @@ use Rattle.rt_bricks.specs.declared.tree.Declaration.{Declaration}
 use Rattle.rt_check_declared.specs.declared.bricks.Heading.{Heading}
 use Rattle.rt_check_declared.specs.Names.{bricks_in}
 use Rattle.rt_check_declared.specs.Verdicts.{IsIn}
-use Rattle.rt_check_declared.proofs.Joins.{sooner_yes, sooner_no}
+use Rattle.rt_check_faults.proofs.Counting.{sooner_yes, sooner_no, before_same, before_through_left, before_through_right}
 use Rattle.rt_check_module.specs.Tree.{Somewhere, first}
-use Rattle.rt_exprs.specs.declared.fault.CheckFault.{CheckFault}
-use Rattle.rt_exprs.specs.declared.fault.CheckFault.TheVariants.{Memory, UnknownName, WrongMode, NotAssignable, WrongCount, RefOfLocal, LeftOut, DeclaredTwice, BadStart, UnknownLabel, NoResult, Unknown}
-use Rattle.rt_exprs.specs.Outcomes.{sooner, is_before, is_unknown, item_of, number_of, IsLeast}
-use Rattle.rt_exprs.proofs.Counting.{before_same, before_through_left, before_through_right}
+use Rattle.rt_check_faults.specs.declared.fault.CheckFault.{CheckFault}
+use Rattle.rt_check_faults.specs.declared.fault.CheckFault.TheVariants.{Memory, UnknownName, WrongMode, NotAssignable, WrongCount, RefOfLocal, LeftOut, DeclaredTwice, BadStart, UnknownLabel, NoResult, Unknown}
+use Rattle.rt_check_faults.specs.Outcomes.{sooner, is_before, is_unknown, item_of, number_of, IsLeast}
 
 abbrev pub Faults : Type 1
 Faults = CheckFault → Type 0

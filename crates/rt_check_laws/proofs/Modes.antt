@@ -1,5 +1,5 @@
 -- In the module of a text two modes of one full mode are one mode.
-use Rattle.std.proofs.Common.{◌≡◌, sym, ap, subst}
+use Rattle.std.proofs.Common.{sym, ap, subst}
 use Rattle.rt_modes.specs.FullMode.{FullMode}
 use Rattle.rt_tree.specs.FullModes.{FullModesTell}
 use Rattle.rt_tree.specs.Opened.{IsTable}

@@ -8,8 +8,8 @@ use Rattle.rt_modes.specs.declared.mode.Mode.{Mode}
 use Rattle.rt_modes.specs.FullMode.{FullMode}
 use Rattle.rt_tree.specs.FullModes.{MayStand}
 use Rattle.rt_tree_nodes.specs.declared.brick.ModuleParts.{ModuleParts}
-use Rattle.rt_exprs.specs.declared.fault.CheckFault.{CheckFault}
-use Rattle.rt_exprs.specs.Outcomes.{is_unknown, item_of, number_of}
+use Rattle.rt_check_faults.specs.declared.fault.CheckFault.{CheckFault}
+use Rattle.rt_check_faults.specs.Outcomes.{is_unknown, item_of, number_of}
 use Rattle.rt_bricks_laws.specs.Spelled.{IsSpelled}
 use Rattle.rt_check_module.specs.Faults.{Stands}
 use Rattle.rt_check_module.specs.Typed.{IsTyped}

@@ -1,5 +1,5 @@
 -- What the names of MODEs stand for, as the program keeps them.
-use Rattle.std.proofs.Common.{◌≡◌, ℕ, List, [], ◌∷◌, ap}
+use Rattle.std.proofs.Common.{◌≡◌, [], ◌∷◌, ap}
 use Rattle.rt_exprs.specs.Names.{find_in}
 use Rattle.rt_exprs.specs.Sights.{Names as Level}
 use Rattle.rt_check_module.specs.Tree.{seen}

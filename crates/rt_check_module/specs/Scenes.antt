@@ -1,7 +1,7 @@
 -- The faults that stand outside of what bricks hold.
 use Rattle.std.specs.Prelude.{◌⊎◌, List}
 use Rattle.rt_bricks.specs.declared.tree.Declaration.{Declaration}
-use Rattle.rt_exprs.specs.declared.fault.CheckFault.{CheckFault}
+use Rattle.rt_check_faults.specs.declared.fault.CheckFault.{CheckFault}
 use Rattle.rt_check_declared.specs.Names.{name_faults}
 use Rattle.rt_check_declared.specs.Bricks.{brick_faults}
 use Rattle.rt_check_declared.specs.Records.{Stands as StandsInModes}

@@ -6,7 +6,7 @@ use Rattle.std.specs.Str.{bytes_eq}
 use Rattle.rt_bricks.specs.declared.tree.Declaration.{Declaration}
 use Rattle.rt_bricks.specs.declared.tree.Declaration.TheVariants as declares
 use Rattle.rt_modes.specs.declared.mode.RecordDef.{RecordDef}
-use Rattle.rt_exprs.specs.declared.fault.CheckFault.TheVariants as fault
+use Rattle.rt_check_faults.specs.declared.fault.CheckFault.TheVariants as fault
 use Rattle.rt_check_declared.specs.Written.{Names}
 use Rattle.rt_check_declared.specs.declared.names.Declared.{Declared}
 use Rattle.rt_check_declared.specs.Names.{Named, Known, find, is_there, twice, names_in, names_from, names, name_faults, records_in, bricks_in}

@@ -23,7 +23,7 @@ use Rattle.rt_tree_nodes.specs.declared.brick.Kind.TheVariants as kind
 use Rattle.rt_tree_nodes.specs.declared.brick.ProcBody.{ProcBody}
 use Rattle.rt_tree_nodes.specs.Scopes.{Scope, passes, is_label_layer, field_is}
 use Rattle.rt_tree_nodes.specs.Typing.{Signature, signature_by}
-use Rattle.rt_exprs.specs.declared.fault.CheckFault.TheVariants as fault
+use Rattle.rt_check_faults.specs.declared.fault.CheckFault.TheVariants as fault
 use Rattle.rt_tree.specs.declared.standing.Standing.TheVariants as standing
 use Rattle.rt_tree.specs.Modules.{stands_alone, field_stands, is_recovery_label, item_stands, is_here, is_ext, body_fits, procedure_fits, proc_fits, items_start, data_starts, words_fit, brick_fits}
 use Rattle.rt_check_declared.specs.declared.site.Site.TheVariants as site

@@ -3,7 +3,7 @@ use Rattle.std.proofs.Common.{◌≡◌, ℕ, List, [], ◌∷◌, ◌++◌, map
 use Rattle.std.specs.List.{AllByRecursion}
 use Rattle.rt_bricks.specs.declared.tree.DataLine.{DataLine}
 use Rattle.rt_modes.specs.declared.mode.Mode.{Mode}
-use Rattle.rt_exprs.specs.declared.fault.CheckFault.{CheckFault}
+use Rattle.rt_check_faults.specs.declared.fault.CheckFault.{CheckFault}
 use Rattle.rt_check_declared.specs.declared.site.Site.TheVariants as site
 use Rattle.rt_check_declared.specs.declared.written.Resolved.{Resolved}
 use Rattle.rt_check_declared.specs.Fields.{faults_by}

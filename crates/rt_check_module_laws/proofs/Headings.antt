@@ -18,7 +18,7 @@ use Rattle.rt_modes.specs.declared.mode.Mode.TheOpen.{Mode-F}
 use Rattle.rt_modes.specs.declared.mode.Mode.TheVariants as mode
 use Rattle.rt_tree_nodes.specs.declared.brick.Kind.{Kind}
 use Rattle.rt_tree_nodes.specs.Scopes.{is_svc, is_label_layer}
-use Rattle.rt_exprs.specs.declared.fault.CheckFault.{CheckFault}
+use Rattle.rt_check_faults.specs.declared.fault.CheckFault.{CheckFault}
 use Rattle.rt_tree.specs.declared.standing.Standing.{Standing}
 use Rattle.rt_tree.specs.declared.standing.Standing.TheVariants as standing
 use Rattle.rt_tree.specs.Modules.{Stands, stands, layer_stands, all_passed, stands_alone}

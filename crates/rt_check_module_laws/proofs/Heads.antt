@@ -9,10 +9,10 @@ use Rattle.rt_modes.specs.declared.mode.Field.{Field}
 use Rattle.rt_modes.specs.declared.mode.Mode.{Mode}
 use Rattle.rt_tree_nodes.specs.declared.brick.Local.{Local as Made}
 use Rattle.rt_tree_nodes.specs.declared.brick.Local.TheVariants as made
-use Rattle.rt_exprs.specs.declared.fault.CheckFault.{CheckFault}
-use Rattle.rt_exprs.specs.declared.fault.CheckFault.TheVariants as fault
+use Rattle.rt_check_faults.specs.declared.fault.CheckFault.{CheckFault}
+use Rattle.rt_check_faults.specs.declared.fault.CheckFault.TheVariants as fault
 use Rattle.rt_exprs.specs.Names.{find}
-use Rattle.rt_exprs.specs.Outcomes.{Outcome, ◌>>=◌}
+use Rattle.rt_check_faults.specs.Outcomes.{Outcome, ◌>>=◌}
 use Rattle.rt_exprs_laws.specs.Agreeing.{IsValue}
 use Rattle.rt_check_declared.specs.declared.site.Site.TheVariants as site
 use Rattle.rt_check_declared.specs.declared.written.Resolved.{Resolved}

@@ -23,7 +23,7 @@ use Rattle.rt_check_declared.specs.declared.written.Resolved.TheVariants as reso
 use Rattle.rt_check_declared.specs.Verdicts.{Verdict, fit, unfit, ◌>>=◌}
 use Rattle.rt_check_declared.specs.Written.{Names, judged, length_fits, counted, written}
 use Rattle.rt_check_declared.specs.Fields.{fields_by, faults_by, written_fields, mode_faults}
-use Rattle.rt_exprs.specs.declared.fault.CheckFault.{CheckFault}
+use Rattle.rt_check_faults.specs.declared.fault.CheckFault.{CheckFault}
 use Rattle.rt_check_declared.specs.Records.{definition, record_modes, field_faults}
 use Rattle.rt_bricks_laws.specs.Shallow.{shallow}
 use Rattle.rt_check_bodies_laws.specs.Standing.{standing_of, AreRecords}

@@ -12,10 +12,10 @@ use Rattle.rt_modes.specs.declared.mode.Mode.TheOpen.{Mode-F}
 use Rattle.rt_modes.specs.declared.mode.RecordDef.{RecordDef}
 use Rattle.rt_tree_nodes.specs.Scopes.{with, passes, same, Face, Scope, Sort, OfData, OfProc, OfStack, fields_in, field_at, is_svc, is_errors, is_streams, items_of}
 use Rattle.rt_tree_nodes.specs.Typing.{Shared, Private, kept, item_found}
-use Rattle.rt_exprs.specs.declared.fault.CheckFault.TheVariants as fault
+use Rattle.rt_check_faults.specs.declared.fault.CheckFault.TheVariants as fault
 use Rattle.rt_exprs.specs.declared.scope.Meaning.{Meaning}
 use Rattle.rt_exprs.specs.declared.scope.Meaning.TheVariants as meaning
-use Rattle.rt_exprs.specs.Operands.{field_from, as_word, field_in, first_field, is_label}
+use Rattle.rt_exprs.specs.Operands.{field_in, first_field, is_label}
 use Rattle.std.specs.List.{AllByRecursion}
 use Rattle.rt_tree.specs.Modules.{part_mode, mode_along, data_in, shared_of, shared_mode, place_starts, starts}
 use Rattle.rt_exprs_laws.specs.Agreeing.{IsThere, IsItem, HasItems}
@@ -28,20 +28,12 @@ use Rattle.rt_check_module_laws.proofs.Layers.{a_procedure, a_place}
 
 -- ---- selectors
 
-kept_word : (y x : ℕ × Mode) (b : Bool) → (if b then Some y else None) ≡ Some x → y ≡ x
-kept_word y x true e = cc
-kept_word y x false e = absurd cc
-
-as_word_is : (o : Option (ℕ × Mode)) (x : ℕ × Mode) → as_word o ≡ Some x → o ≡ Some x
-as_word_is None x e = absurd cc
-as_word_is (Some y) x e = ap (λ (z : ℕ × Mode). Some z) (kept_word y x (nat_lt y.0 65536) e)
-
 numbered : (fs : List Field) (k : ℕ) (m : Mode) → FieldIs fs 0 k m → field_at fs k ≡ Some m
 numbered fs k m g = let e : k ≡ g.at = omega (arith, g.number) in rw e g.mode
 
 named_field : (name : List ℕ) (x : ℕ × Mode) (o : Option RecordDef) → field_in o name ≡ Some x → with o (λ d. field_at d.fields x.0) ≡ Some x.1
 named_field name x None e = absurd cc
-named_field name x (Some d) e = numbered d.fields x.0 x.1 (field_found 0 d.fields name x (as_word_is (field_from 0 d.fields name) x e))
+named_field name x (Some d) e = numbered d.fields x.0 x.1 (field_found 0 d.fields name x e)
 
 led : (at : At) (o : Option (ℕ × Mode)) (k : ℕ) (n : Mode) → field_by at o ≡ leads k n → o ≡ Some (k, n)
 led at None k n e = absurd cc

@@ -8,8 +8,8 @@ use Rattle.rt_bricks.specs.declared.tree.Module.{Module}
 use Rattle.rt_pieces.specs.declared.item.Item.{Item}
 use Rattle.rt_check_declared.specs.Names.{scope}
 use Rattle.rt_bricks.specs.declared.tree.RecordMode.{RecordMode}
-use Rattle.rt_exprs.specs.declared.fault.CheckFault.{CheckFault}
-use Rattle.rt_exprs.specs.declared.fault.CheckFault.TheVariants as fault
+use Rattle.rt_check_faults.specs.declared.fault.CheckFault.{CheckFault}
+use Rattle.rt_check_faults.specs.declared.fault.CheckFault.TheVariants as fault
 use Rattle.rt_modes.specs.declared.mode.Field.{Field}
 use Rattle.rt_modes.specs.declared.mode.Mode.{Mode, out-Mode, roll-Mode, map-Mode, the_lemmas}
 use Rattle.rt_modes.specs.declared.mode.Mode.TheFolds.{ind-Mode, fold_out-Mode}

@@ -1,5 +1,5 @@
 -- The strings in a start.
-use Rattle.std.proofs.Common.{◌≡◌, ℕ, ◌<◌, ◌==◌, Bool, true, false, if◌then◌else◌, List, [], ◌∷◌, Option, Some, None, length, map, arith, refl, sym, ap, ◌∙◌, subst}
+use Rattle.std.proofs.Common.{◌≡◌, ℕ, ◌<◌, ◌==◌, true, List, [], ◌∷◌, Option, Some, None, length, map, arith, refl, sym, ap, ◌∙◌, subst}
 use Rattle.std.specs.Prelude.{nat_lt, nat_le, position}
 use Rattle.std.specs.List.{AllByRecursion}
 use Rattle.std.proofs.lemmas.Bool.Decides.{nat_tests}
@@ -38,17 +38,12 @@ some_there : (keys : List ℕ) (k : ℕ) → is_in keys k ≡ true → 0 < lengt
 some_there [] k e = absurd cc
 some_there (x ∷ xs) k e = omega arith
 
-number_below : (keys : List ℕ) (k : ℕ) (o : Option ℕ) → position (λ x. x == k) keys ≡ o → 0 < length keys → nat_lt (number_by o) (length keys) ≡ true
-number_below keys k None e l = tested 0 (length keys) l where
-  tested : (a b : ℕ) → a < b → nat_lt a b ≡ true
-  tested a b l = grind (arith, nat_tests)
-number_below keys k (Some i) e l = by_test (nat_lt i 65536) where
-  tested : (a b : ℕ) → a < b → nat_lt a b ≡ true
-  tested a b l = grind (arith, nat_tests)
+tested : (a b : ℕ) → a < b → nat_lt a b ≡ true
+tested a b l = grind (arith, nat_tests)
 
-  by_test : (b : Bool) → nat_lt (if b then i else 0) (length keys) ≡ true
-  by_test true = tested i (length keys) (position-Some (λ x. x == k) keys i 0 e).0
-  by_test false = tested 0 (length keys) l
+number_below : (keys : List ℕ) (k : ℕ) (o : Option ℕ) → position (λ x. x == k) keys ≡ o → 0 < length keys → nat_lt (number_by o) (length keys) ≡ true
+number_below keys k None e l = tested 0 (length keys) l
+number_below keys k (Some i) e l = tested i (length keys) (position-Some (λ x. x == k) keys i 0 e).0
 
 pub number_there : (keys : List ℕ) (k : ℕ) → is_in keys k ≡ true → nat_lt (number_of keys k) (length keys) ≡ true
 number_there keys k h = number_below keys k (position (λ x. x == k) keys) refl (some_there keys k h)

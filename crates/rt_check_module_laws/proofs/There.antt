@@ -7,7 +7,7 @@ use Rattle.rt_modes.specs.declared.mode.Field.{Field}
 use Rattle.rt_modes.specs.declared.mode.Mode.{Mode, out-Mode}
 use Rattle.rt_modes.specs.declared.mode.Mode.TheOpen.{Mode-F}
 use Rattle.rt_tree_nodes.specs.declared.brick.Kind.{Kind}
-use Rattle.rt_tree_nodes.specs.Scopes.{Layer, Scope, Face, with, passes, face, faces, sort_of, proc_in, proc_of, proc_mode, svc_mode, fields_of, items_of, errors_of, streams_of, is_svc, is_int_layer, is_byte_layer, is_label_layer, takes, gives, is_error_data, is_stream_data, field_at}
+use Rattle.rt_tree_nodes.specs.Scopes.{Layer, Scope, Face, with, passes, face, faces, proc_of, fields_of, items_of, errors_of, streams_of, is_svc, is_int_layer, is_byte_layer, is_label_layer, takes, gives, is_error_data, is_stream_data, field_at}
 use Rattle.rt_tree_nodes.specs.Scopes as face_tests
 use Rattle.rt_tree_nodes.specs.Typing.{Private, kept, item_found}
 use Rattle.rt_exprs.specs.declared.scope.Meaning.{Meaning}

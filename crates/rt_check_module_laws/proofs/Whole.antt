@@ -1,5 +1,5 @@
 -- Each node of the tree of a module in which no fault stands fits.
-use Rattle.std.proofs.Common.{◌≡◌, inl, inr, ℕ, ◌&&◌, Bool, true, List, [], ◌∷◌, ◌++◌, length, Option, Some, None, refl, sym, ap, subst}
+use Rattle.std.proofs.Common.{◌≡◌, inl, inr, ℕ, ◌&&◌, Bool, true, List, [], ◌∷◌, ◌++◌, length, Option, Some, None, refl, sym, subst}
 use Rattle.std.specs.List.{list_all, AllByRecursion}
 use Rattle.rt_bricks.specs.declared.tree.DataBrick.{DataBrick}
 use Rattle.rt_bricks.specs.declared.tree.Declaration.{Declaration}
@@ -9,7 +9,7 @@ use Rattle.rt_bricks.specs.declared.tree.ProcedureBrick.{ProcedureBrick}
 use Rattle.rt_modes.specs.declared.mode.Mode.{Mode}
 use Rattle.rt_tree_nodes.specs.declared.brick.Local.{Local}
 use Rattle.rt_tree_nodes.specs.Scopes.{Scope, scope_of, with_locals}
-use Rattle.rt_exprs.specs.declared.fault.CheckFault.{CheckFault}
+use Rattle.rt_check_faults.specs.declared.fault.CheckFault.{CheckFault}
 use Rattle.rt_exprs.specs.Names.{find}
 use Rattle.rt_pieces.specs.declared.item.Item.{Item}
 use Rattle.rt_sizes.specs.Sizes.{Table}
@@ -32,7 +32,6 @@ use Rattle.rt_check_declared.specs.Parts.{recovers, parts, item_parts}
 use Rattle.rt_check_starts.specs.Bricks.{BrickFault, in_items}
 use Rattle.rt_check_starts.specs.Items.{brick_starts}
 use Rattle.rt_check_starts.specs.Items.{brick_faults as start_faults}
-use Rattle.rt_check_starts.specs.Strings.{brick_texts}
 use Rattle.rt_check_bodies_laws.specs.Held.{Holds, IsKnown, AllKnown, ResultIs}
 use Rattle.rt_check_bodies_laws.specs.Standing.{AreRecords}
 use Rattle.rt_check_bodies_laws.proofs.Brick.{procedure_accepted}
@@ -46,7 +45,7 @@ use Rattle.rt_bricks_laws.proofs.Labels.{labels_few}
 use Rattle.rt_check_bodies_laws.specs.Named.{IsRecord, NamesRecords}
 use Rattle.rt_check_bodies_laws.proofs.Procedures.{few_locals}
 use Rattle.rt_check_bodies_laws.proofs.StandingBodies.{locals_stand}
-use Rattle.rt_check_module_laws.specs.Starts.{BeginAt, GivenStands, IsReady}
+use Rattle.rt_check_module_laws.specs.Starts.{GivenStands, IsReady}
 use Rattle.rt_check_module_laws.proofs.StartBricks.{starts_fit, each_item_has_a_part}
 use Rattle.rt_check_module.specs.Tree.{first, Somewhere, nothing, modes_seen, records, headings, gathered, fillings_in, filled, texts, sight, tree}
 use Rattle.rt_check_module.specs.Faults.{inside}

@@ -6,7 +6,7 @@ use Rattle.rt_bricks.specs.declared.tree.Module.{Module}
 use Rattle.rt_bricks.specs.Derives.{Derives}
 use Rattle.rt_tree_nodes.specs.declared.brick.Local.{Local}
 use Rattle.rt_tree_nodes.specs.Scopes.{scope_of, with_locals}
-use Rattle.rt_exprs.specs.declared.fault.CheckFault.{CheckFault}
+use Rattle.rt_check_faults.specs.declared.fault.CheckFault.{CheckFault}
 use Rattle.rt_pieces.specs.declared.item.Item.{Item}
 use Rattle.rt_items.specs.Ranges.{InRange}
 use Rattle.rt_tree.specs.Modules.{record_stands, every_node_fits}

@@ -5,10 +5,10 @@ use Rattle.rt_bricks.specs.declared.tree.DataLine.{DataLine}
 use Rattle.rt_check_declared.specs.declared.parts.Part.{Part}
 use Rattle.rt_check_declared.specs.Totals.{LargeFault}
 use Rattle.rt_tree_nodes.specs.declared.brick.DataStart.{DataStart}
-use Rattle.rt_exprs.specs.declared.fault.CheckFault.{CheckFault}
+use Rattle.rt_check_faults.specs.declared.fault.CheckFault.{CheckFault}
 use Rattle.rt_exprs.specs.Sights.{Sight}
-use Rattle.rt_exprs.specs.Outcomes.{IsLeast, UnlessMemory}
-use Rattle.rt_exprs.proofs.Joins.{given}
+use Rattle.rt_check_faults.specs.Outcomes.{IsLeast, UnlessMemory}
+use Rattle.rt_check_faults.proofs.Joins.{given}
 use Rattle.rt_check_declared.specs.Heads.{noted}
 use Rattle.rt_check_declared.specs.Records.{Counts}
 use Rattle.rt_check_declared.proofs.RecordSteps.{drop_next, noted_some}

@@ -5,7 +5,7 @@ use Rattle.std.proofs.lemmas.List.{drop_all, append-nil}
 use Rattle.rt_bricks.specs.declared.tree.Start.{Start}
 use Rattle.rt_modes.specs.declared.mode.Field.{Field}
 use Rattle.rt_modes.specs.declared.mode.Mode.{Mode}
-use Rattle.rt_exprs.specs.declared.fault.CheckFault.{CheckFault}
+use Rattle.rt_check_faults.specs.declared.fault.CheckFault.{CheckFault}
 use Rattle.rt_modes.specs.declared.mode.RecordDef.{RecordDef}
 use Rattle.rt_tree_nodes.specs.declared.brick.DataStart.{DataStart}
 use Rattle.rt_check_declared.specs.Written.{Names}

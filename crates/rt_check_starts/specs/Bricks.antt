@@ -4,7 +4,7 @@ use Rattle.rt_bricks.specs.declared.tree.DataLine.{DataLine}
 use Rattle.rt_check_declared.specs.declared.parts.Part.{Part}
 use Rattle.rt_check_declared.specs.Totals.{LargeFault}
 use Rattle.rt_tree_nodes.specs.declared.brick.DataStart.{DataStart}
-use Rattle.rt_exprs.specs.declared.fault.CheckFault.{CheckFault}
+use Rattle.rt_check_faults.specs.declared.fault.CheckFault.{CheckFault}
 use Rattle.rt_exprs.specs.Sights.{Sight}
 use Rattle.rt_sizes.specs.Sizes.{Table}
 use Rattle.rt_check_declared.specs.Verdicts.{IsIn}

@@ -11,8 +11,8 @@ use Rattle.rt_modes.specs.declared.mode.Mode.{Mode}
 use Rattle.rt_modes.specs.declared.mode.RecordDef.{RecordDef}
 use Rattle.rt_tree_nodes.specs.declared.brick.DataStart.{DataStart}
 use Rattle.rt_tree_nodes.specs.declared.brick.DataStart.TheVariants as start
-use Rattle.rt_exprs.specs.declared.fault.CheckFault.{CheckFault}
-use Rattle.rt_exprs.specs.declared.fault.CheckFault.TheVariants as fault
+use Rattle.rt_check_faults.specs.declared.fault.CheckFault.{CheckFault}
+use Rattle.rt_check_faults.specs.declared.fault.CheckFault.TheVariants as fault
 use Rattle.rt_exprs.specs.Sights.{Sight}
 use Rattle.rt_check_starts.specs.Defaults.{has_default, default}
 use Rattle.rt_check_starts.specs.Starts.{Written, written_in}

@@ -1,5 +1,5 @@
 -- What is written for an item: where it starts an item of a mode, which faults stand in it there, and which start it is.
-use Rattle.std.specs.Prelude.{ℕ, ◌+◌, ◌==◌, ◌&&◌, ◌||◌, nat_le, nat_lt, Bool, true, false, not, if◌then◌else◌, List, [], ◌∷◌, ◌++◌, length, map, take, drop, Option, Some, None, slice_get, position, replicate}
+use Rattle.std.specs.Prelude.{ℕ, ◌+◌, ◌==◌, ◌&&◌, ◌||◌, nat_le, Bool, true, false, not, if◌then◌else◌, List, [], ◌∷◌, ◌++◌, length, map, take, drop, Option, Some, None, slice_get, position, replicate}
 use Rattle.rt_grammar.specs.declared.at.At.{At}
 use Rattle.rt_bricks.specs.declared.tree.Parenthesized.{Parenthesized}
 use Rattle.rt_bricks.specs.declared.tree.Selector.{Selector}
@@ -14,7 +14,7 @@ use Rattle.rt_modes.specs.declared.mode.Mode.TheOpen.{Mode-F}
 use Rattle.rt_modes.specs.declared.mode.RecordDef.{RecordDef}
 use Rattle.rt_tree_nodes.specs.declared.brick.DataStart.{DataStart}
 use Rattle.rt_tree_nodes.specs.declared.brick.DataStart.TheVariants as start
-use Rattle.rt_exprs.specs.declared.fault.CheckFault.{CheckFault}
+use Rattle.rt_check_faults.specs.declared.fault.CheckFault.{CheckFault}
 use Rattle.rt_exprs.specs.Sights.{Sight}
 use Rattle.rt_exprs.specs.Modes.{is_byte}
 use Rattle.rt_exprs.specs.Names.{find}
@@ -181,7 +181,7 @@ text_used item _ = []
 
 abbrev pub number_by : Option ℕ → ℕ
 number_by None = 0
-number_by (Some n) = if nat_lt n 65536 then n else 0
+number_by (Some n) = n
 
 -- The number of a string of the module, which begins at an item: its place among the items of all.
 abbrev pub number_of : List ℕ → ℕ → ℕ

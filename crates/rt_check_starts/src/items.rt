@@ -1,8 +1,8 @@
 //! The starts of a data brick, item by item.
 
 ghost use Rattle.std.specs.Prelude.{◌≡◌, true, [], ◌∷◌, ◌++◌, None, drop, length, IfOk, IfErr, OnOk, MatchOption};
-ghost use Rattle.rt_exprs.specs.declared.fault.CheckFault.{CheckFault};
-ghost use Rattle.rt_exprs.specs.Outcomes.{UnlessMemory, IsLeast};
+ghost use Rattle.rt_check_faults.specs.declared.fault.CheckFault.{CheckFault};
+ghost use Rattle.rt_check_faults.specs.Outcomes.{UnlessMemory, IsLeast};
 ghost use Rattle.rt_sizes.specs.Capped.{AreSizes};
 ghost use Rattle.rt_sizes.specs.Sizes.{Table};
 ghost use Rattle.rt_check_starts.specs.Bricks.{BrickFault, AreStarts};
@@ -17,7 +17,8 @@ use crate::make::make_start;
 use crate::parts::copies;
 use rt_bricks::{DataItem, DataLine, Start};
 use rt_check_declared::{Given, Part, large_item, note};
-use rt_exprs::{CheckFault, Scope};
+use rt_check_faults::CheckFault;
+use rt_exprs::Scope;
 use rt_grammar::At;
 use rt_modes::Mode;
 use rt_sizes::Size;

@@ -10,7 +10,8 @@ ghost use Rattle.rt_check_declared.specs.Verdicts.{with_faults};
 use crate::parts::{Wanted, next_fields, want};
 use crate::places::{find_place, note_private, note_unfit, place_fits};
 use rt_bricks::{Sign, Start};
-use rt_exprs::{CheckFault, Scope};
+use rt_check_faults::CheckFault;
+use rt_exprs::Scope;
 use rt_modes::{Field, Mode};
 
 /// Notes the names in a start that are unknown, or whose declarations are unfit.

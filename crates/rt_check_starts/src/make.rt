@@ -1,6 +1,6 @@
 //! The start that is made of what is written, where it starts an item.
 
-ghost use Rattle.std.specs.Prelude.{◌≡◌, map, IfOk, position, ◌==◌};
+ghost use Rattle.std.specs.Prelude.{◌≡◌, ◌≤◌, map, IfOk, OnErr, position, ◌==◌};
 ghost use Rattle.rt_modes.specs.declared.mode.Mode.{out-Mode};
 ghost use Rattle.rt_check_starts.specs.Starts as spec;
 ghost use Rattle.rt_check_starts.specs.Starts.{written_in};
@@ -9,7 +9,7 @@ use crate::judge::is_negative;
 use crate::parts::{Wanted, copies, next_fields, want};
 use crate::places::{find_place, make_place};
 use rt_bricks::{Sign, Start};
-use rt_exprs::Scope;
+use rt_exprs::{Scope, small_number};
 use rt_modes::{Field, Mode};
 use rt_tree_nodes::DataStart;
 use rt_words::{List, Memory, wrap_sub};
@@ -29,7 +29,8 @@ pub fn make_start(
     match start {
         Start::Number(sign, number, _, _) => Ok(DataStart::Number(word(*sign, *number))),
         Start::Text(bytes, at) => {
-            make_text(alloc, bytes.as_slice(), number_of(scope, at.item), mode)
+            let number = number_of(scope, at.item)?;
+            make_text(alloc, bytes.as_slice(), number, mode)
         }
         Start::Place(name, selectors) => {
             let found = find_place(scope, name, selectors.as_slice());
@@ -105,12 +106,13 @@ fn word(sign: Option<Sign>, number: u16) -> u16
 }
 
 /// The number of the string of the module that begins at an item.
-fn number_of(scope: &Scope<'_>, item: u16) -> u16
-    ensures { result ≡ spec.number_of scope.now.strings item }
+fn number_of(scope: &Scope<'_>, item: u16) -> Result<u16, Memory>
+    ensures number { IfOk result (λ n. n ≡ spec.number_of scope.now.strings item) }
+    ensures large { OnErr result (65536 ≤ spec.number_of scope.now.strings item) }
 {
     match scope.string_at(item) {
-        Some(number) if number < 65536 => number as u16,
-        _ => 0,
+        Some(number) => small_number(number),
+        None => Ok(0),
     }
 }
 

@@ -11,7 +11,8 @@ ghost use Rattle.rt_check_declared.specs.Verdicts.{with_faults};
 
 use rt_bricks::Selector;
 use rt_check_declared::note;
-use rt_exprs::{CheckFault, IndexedRecords, Meaning, Scope, field_named, find as find_name};
+use rt_check_faults::CheckFault;
+use rt_exprs::{IndexedRecords, Meaning, Scope, field_named, find as find_name, small_number};
 use rt_grammar::{At, Ident};
 use rt_modes::Mode;
 use rt_tree_nodes::{DataStart, same_mode};
@@ -22,7 +23,7 @@ use std::alloc::Global;
 #[derive(Clone, Copy)]
 enum Step<'a> {
     /// To a field or an element, by its number from 0, and its mode.
-    Leads(u16, &'a Mode),
+    Leads(usize, &'a Mode),
     /// To a field that the record hasn't.
     Lost(CheckFault),
     /// To a field whose mode can't be known.
@@ -84,7 +85,7 @@ fn element<'a>(number: u16, mode: &'a Mode) -> Step<'a>
 {
     match mode {
         Mode::Array(length, of) if 1 <= number && number <= *length => {
-            Step::Leads(number - 1, of.get())
+            Step::Leads(usize::from(number - 1), of.get())
         }
         _ => Step::Nowhere,
     }
@@ -120,7 +121,7 @@ fn path(
     for selector in selectors {
         match selected(modes, selector, inner) {
             Step::Leads(number, next) => {
-                numbers.push(number)?;
+                numbers.push(small_number(number)?)?;
                 inner = next;
             }
             _ => return Ok(numbers),

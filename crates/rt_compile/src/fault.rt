@@ -1,7 +1,7 @@
 //! Why a text has no object.
 
 use rt_check::ModuleFault;
-use rt_exprs::CheckFault;
+use rt_check_faults::CheckFault;
 use rt_items::TextFault;
 use rt_templates::ExpandFault;
 use rt_words::Name;

@@ -1,8 +1,7 @@
 -- What can be known is found, and a fault that stands is found, or one that counts before it.
-use Rattle.std.proofs.Common.{◌≡◌, ◌≢◌, ℕ, ◌==◌, ◌<◌, Bool, true, false, List, [], ◌∷◌, ◌++◌, length, Option, Some, None, Ok, Err, map, arith, refl, sym, ap, ◌∙◌, subst, append_assoc}
+use Rattle.std.proofs.Common.{◌≡◌, ◌≢◌, ℕ, ◌==◌, Bool, true, false, List, [], ◌∷◌, ◌++◌, length, Option, Some, None, Ok, Err, map, arith, refl, sym, ap, ◌∙◌, subst, append_assoc}
 use Rattle.std.proofs.lemmas.List.{append-nil, length-map}
 use Rattle.std.proofs.lemmas.Bool.Decides.{nat_tests}
-use Rattle.std.specs.Prelude.{nat_lt}
 use Rattle.rt_grammar.specs.declared.at.At.{At}
 use Rattle.rt_syntax_exprs.specs.declared.tree.Expr.{Expr}
 use Rattle.rt_syntax_exprs.specs.declared.tree.Expr.TheOpen.{Link-F}
@@ -16,25 +15,21 @@ use Rattle.rt_tree_nodes.specs.declared.value.Value.TheVariants as values
 use Rattle.rt_tree_nodes.specs.declared.value.Place.{Place}
 use Rattle.rt_tree_nodes.specs.declared.value.Callee.{Callee}
 use Rattle.rt_exprs.specs.declared.operand.Standing.{Standing}
-use Rattle.rt_exprs.specs.declared.fault.CheckFault.{CheckFault}
-use Rattle.rt_exprs.specs.declared.fault.CheckFault.TheVariants as fault
+use Rattle.rt_check_faults.specs.declared.fault.CheckFault.{CheckFault}
+use Rattle.rt_check_faults.specs.declared.fault.CheckFault.TheVariants as fault
 use Rattle.rt_exprs.specs.declared.operand.Base.{Base}
 use Rattle.rt_exprs.specs.declared.operand.Base.TheVariants as base
 use Rattle.rt_exprs.specs.Sights.{Sight}
 use Rattle.rt_exprs.specs.Modes.{Want, basic, want}
-use Rattle.rt_exprs.specs.Outcomes.{Outcome, both, after, is_unknown, is_before, sooner}
+use Rattle.rt_check_faults.specs.Outcomes.{Outcome, both, after, is_unknown, is_before, sooner, fault_of, told, pair_of}
 use Rattle.rt_exprs.specs.Operands.{Judged, suits, suits_as, if_known, fits, by_itself}
-use Rattle.rt_exprs.specs.Names.{text_by}
-use Rattle.rt_exprs.specs.Judging.{judged, linked, judged_chain, walk, monadic, seen_as, selected, answered, subscript, arguments_from, if_counted, counted, call, element, computes, by_left, left_first, right_alone, fault_of, is_shift, all_alone, base_in, frac_or_int, right_takes, takes}
+use Rattle.rt_exprs.specs.Judging.{judged, linked, judged_chain, walk, monadic, seen_as, selected, answered, subscript, arguments_from, if_counted, counted, call, element, computes, by_left, left_first, right_alone, is_shift, all_alone, base_in, frac_or_int, right_takes, takes}
 use Rattle.rt_exprs.specs.Fitting as f
-use Rattle.rt_exprs.specs.Fitting.{Shows, ShowsChain, ShowsLinks, ShowsLink, Takes, TakeEach, Alone, AllAlone, RightAlone, FaultIn, FaultInChain, FaultInLinks, FaultInLink, Unfit, UnfitAmong, UnfitAlone, UnfitSomewhere, Nothing, told, pair_of, pushed}
+use Rattle.rt_exprs.specs.Fitting.{Shows, ShowsChain, ShowsLinks, ShowsLink, Takes, TakeEach, Alone, AllAlone, RightAlone, FaultIn, FaultInChain, FaultInLinks, FaultInLink, Unfit, UnfitAmong, UnfitAlone, UnfitSomewhere, Nothing, pushed}
 use Rattle.rt_exprs.proofs.Real.{suits_real}
-use Rattle.rt_exprs.proofs.Told.{or_other_fault, real_left, real_right}
+use Rattle.rt_check_faults.proofs.Told.{or_other_fault, real_left, real_right}
 use Rattle.rt_exprs.proofs.Trees.{opened_number, opened_text, opened_chain, opened_val, opened_monadic, opened_dyadic, opened_dot, opened_apply, chain_as, no_parameters}
-use Rattle.rt_exprs.proofs.Counting.{Stops, exactly, moved, stops_then, stops_both_left, stops_both_right, stops_after_left, stops_after_right, stops_or_other, stops_sooner_left, stops_sooner_right, before_through_left, before_through_right, before_same}
-
-less : (n m : ℕ) → n < m → nat_lt n m ≡ true
-less n m h = grind (arith, nat_tests)
+use Rattle.rt_check_faults.proofs.Counting.{Stops, exactly, moved, stops_then, stops_both_left, stops_both_right, stops_after_left, stops_after_right, stops_or_other, stops_sooner_left, stops_sooner_right, before_through_left, before_through_right, before_same}
 
 equal : (n m : ℕ) → n ≡ m → (n == m) ≡ true
 equal n m h = grind (arith, nat_tests)
@@ -103,7 +98,7 @@ answered_told at c r known (Some xs) = refl
 mutual
   pub is_judged : {s : Sight} {e : Expr} {o : Option Judged} → Shows s e o → judged s e ≡ told o
   is_judged {s = s} {e = e} (f.shows_number {n = n} {at = at} o) = opened_number s e n at o
-  is_judged {s = s} {e = e} (f.shows_text {t = t} {n = n} {at = at} o i h) = opened_text s e t at o ∙ rw (i, less n 65536 h) refl
+  is_judged {s = s} {e = e} (f.shows_text {t = t} {at = at} o i) = opened_text s e t at o ∙ rw i refl
   is_judged {s = s} {e = e} (f.shows_chain {c = c} o h) = opened_chain s e c o ∙ chain_judged h
   is_judged {s = s} {e = e} (f.shows_val {c = c} {at = at} o h t) = opened_val s e c at o ∙ rw (chain_judged h, t) refl
   is_judged {s = s} {e = e} (f.hides_val {c = c} {at = at} o h) = opened_val s e c at o ∙ rw (chain_judged h) refl
@@ -157,13 +152,6 @@ mutual
   right_judged (f.alone_right i h) = rw i (alone_judged h)
 
 -- ---- faults
-
-no_text : (at : At) (o : Option ℕ) → ((n : ℕ) → o ≡ Some n → n < 65536 → ⊥) → text_by at o ≡ Err (fault.WrongMode at)
-no_text at None none = refl
-no_text at (Some n) none = too_far at n (nat_lt n 65536) refl none where
-  too_far : (at : At) (n : ℕ) (c : Bool) → nat_lt n 65536 ≡ c → ((m : ℕ) → Some n ≡ Some m → m < 65536 → ⊥) → text_by at (Some n) ≡ Err (fault.WrongMode at)
-  too_far at n true e none = absurd (none n refl (grind (arith, nat_tests)))
-  too_far at n false e none = rw e refl
 
 many : (at : At) (s : Sight) (es : List Expr) → length es ≢ 1 → subscript at (map (judged s) es) ≡ Err (fault.WrongMode at)
 many at s [] n = refl
@@ -312,7 +300,7 @@ itself_alone op u i = rw i refl
 
 mutual
   pub fault_stops : {s : Sight} {e : Expr} {g : CheckFault} → FaultIn s e g → Stops (judged s e) g
-  fault_stops {s = s} {e = e} (f.no_string {t = t} {at = at} o none) = exactly _ _ refl (opened_text s e t at o ∙ no_text at _ none)
+  fault_stops {s = s} {e = e} (f.no_string {t = t} {at = at} o none) = exactly _ _ refl (opened_text s e t at o ∙ rw none refl)
   fault_stops {s = s} {e = e} {g = g} (f.in_chain {c = c} o h) = moved _ _ g (opened_chain s e c o) (chain_stops h)
   fault_stops {s = s} {e = e} {g = g} (f.in_val {c = c} {at = at} o h) = moved _ _ g (opened_val s e c at o) (stops_then (judged_chain s c) _ g (chain_stops h))
   fault_stops {s = s} {e = e} (f.no_ref {c = c} {at = at} o h t) = exactly _ _ refl (opened_val s e c at o ∙ rw (chain_judged h, t) refl)

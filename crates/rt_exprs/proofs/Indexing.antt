@@ -12,7 +12,7 @@ use Rattle.rt_modes.specs.declared.mode.Field.{Field}
 use Rattle.rt_modes.specs.declared.mode.Mode.{Mode}
 use Rattle.rt_modes.specs.declared.mode.RecordDef.{RecordDef}
 use Rattle.rt_exprs.specs.Indexed.{number_at, FindsFields, FindsAllFields, NotesFirst}
-use Rattle.rt_exprs.specs.Operands.{or_else, field_from, field_in, first_field, as_word}
+use Rattle.rt_exprs.specs.Operands.{or_else, field_from, field_in, first_field}
 
 -- the number, from k, of the first field of a name
 abbrev pub number_from : ℕ → List Field → List ℕ → Option ℕ
@@ -130,10 +130,10 @@ stands j (f ∷ fs) name k e = by (stands (j + 1) fs name k) (bytes_eq f.name na
         let rest = later is in
         (suc rest.0, omega (arith, rest.1), rw h rest.2)
 
-no_field : (fs : List Field) (name : List ℕ) → number_from 0 fs name ≡ None → as_word (field_from 0 fs name) ≡ None
+no_field : (fs : List Field) (name : List ℕ) → number_from 0 fs name ≡ None → field_from 0 fs name ≡ None
 no_field fs name e = by (field_from 0 fs name) e
   where
-    by : (o : Option (ℕ × Mode)) → option_map (λ x. x.0) o ≡ None → as_word o ≡ None
+    by : (o : Option (ℕ × Mode)) → option_map (λ x. x.0) o ≡ None → o ≡ None
     by None h = refl
     by (Some x) h = absurd cc
 
@@ -141,10 +141,10 @@ no_field_in : (o : Option RecordDef) (name : List ℕ) → number_in o name ≡ 
 no_field_in None name e = refl
 no_field_in (Some r) name e = no_field r.fields name e
 
-the_field : (o : Option RecordDef) (r : RecordDef) (name : List ℕ) (k : ℕ) → o ≡ Some r → number_in o name ≡ Some k → field_in o name ≡ as_word (numbered r.fields k k)
+the_field : (o : Option RecordDef) (r : RecordDef) (name : List ℕ) (k : ℕ) → o ≡ Some r → number_in o name ≡ Some k → field_in o name ≡ numbered r.fields k k
 the_field o r name k is e =
     let at = stands 0 r.fields name k (ap (λ (p : Option RecordDef). number_in p name) (sym is) ∙ e) in
-    ap (λ (p : Option RecordDef). field_in p name) is ∙ ap as_word (at.2 ∙ ap (λ (i : ℕ). numbered r.fields i k) (omega (arith, at.1)))
+    ap (λ (p : Option RecordDef). field_in p name) is ∙ at.2 ∙ ap (λ (i : ℕ). numbered r.fields i k) (omega (arith, at.1))
 
 module _ {A S : Type 0} (rs : List RecordDef) (ms : List (IndexMap (Vec ℕ A) ℕ S)) (all : FindsAllFields rs ms) (number : ℕ) (name : List ℕ) where
   -- where the map has nothing there is no field
@@ -152,5 +152,5 @@ module _ {A S : Type 0} (rs : List RecordDef) (ms : List (IndexMap (Vec ℕ A) �
   finds_none e = sym (no_field_in (slice_get rs number) name (sym (finds rs ms all number name) ∙ e))
 
   -- where it has a number the field is the one of that number
-  pub finds_some : (r : RecordDef) (k : ℕ) → slice_get rs number ≡ Some r → found_in (slice_get ms number) name ≡ Some k → as_word (numbered r.fields k k) ≡ first_field rs number name
+  pub finds_some : (r : RecordDef) (k : ℕ) → slice_get rs number ≡ Some r → found_in (slice_get ms number) name ≡ Some k → numbered r.fields k k ≡ first_field rs number name
   finds_some r k is e = sym (the_field (slice_get rs number) r name k is (sym (finds rs ms all number name) ∙ e))

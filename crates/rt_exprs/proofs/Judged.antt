@@ -3,20 +3,19 @@ use Rattle.std.proofs.Common.{◌≡◌, Bool, true, false, Option, Some, None, 
 use Rattle.std.specs.Prelude.{IfOk, IfErr, IsTrue}
 use Rattle.rt_syntax_exprs.specs.declared.tree.Expr.{Expr}
 use Rattle.rt_tree_nodes.specs.declared.value.Value.{Value}
-use Rattle.rt_exprs.specs.declared.fault.CheckFault.{CheckFault}
-use Rattle.rt_exprs.specs.declared.fault.CheckFault.TheVariants.{Memory, UnknownName, WrongMode, NotAssignable, WrongCount, RefOfLocal, LeftOut, DeclaredTwice, BadStart, UnknownLabel, NoResult, Unknown}
+use Rattle.rt_check_faults.specs.declared.fault.CheckFault.{CheckFault}
+use Rattle.rt_check_faults.specs.declared.fault.CheckFault.TheVariants.{Memory, UnknownName, WrongMode, NotAssignable, WrongCount, RefOfLocal, LeftOut, DeclaredTwice, BadStart, UnknownLabel, NoResult, Unknown}
 use Rattle.rt_exprs.specs.Sights.{Sight}
 use Rattle.rt_exprs.specs.Modes.{Want}
-use Rattle.rt_exprs.specs.Outcomes.{Outcome, Gives, is_before, is_unknown}
+use Rattle.rt_check_faults.specs.Outcomes.{Outcome, Gives, is_before, is_unknown, IsLeast, Settles, IsAnswered, IsAnsweredAs}
 use Rattle.rt_exprs.specs.Operands.{fits}
 use Rattle.rt_exprs.specs.Judging.{judged}
-use Rattle.rt_exprs.specs.Outcomes.{IsLeast, Settles, IsAnswered, IsAnsweredAs}
 use Rattle.rt_exprs.specs.Fitting.{FitsBy, Takes, Unfit}
-use Rattle.rt_exprs.proofs.Joins.{told}
-use Rattle.rt_exprs.proofs.Counting.{Stops}
+use Rattle.rt_check_faults.proofs.Joins.{told}
+use Rattle.rt_check_faults.proofs.Counting.{Stops}
 use Rattle.rt_exprs.proofs.Complete.{takes_judged, unfit_stops}
 use Rattle.rt_exprs.proofs.Known.{fits_known, takes_known}
-use Rattle.rt_exprs.proofs.Told.{Bad, hid, bad, Tells, is_it}
+use Rattle.rt_check_faults.proofs.Told.{Bad, hid, bad, Tells, is_it}
 use Rattle.rt_exprs.proofs.Sound.{SoundFit, sound_fit, expr_sound}
 
 settled : (Stands : CheckFault → Type 0) (g : CheckFault) → is_unknown g ≡ false → IsLeast Stands g → Settles Stands g

@@ -11,11 +11,11 @@ use Rattle.rt_tree_nodes.specs.declared.value.Place.TheVariants as places
 use Rattle.rt_exprs.specs.declared.operand.Standing.{Standing}
 use Rattle.rt_exprs.specs.Sights.{Sight}
 use Rattle.rt_exprs.specs.Modes.{Want}
-use Rattle.rt_exprs.specs.Outcomes.{Outcome, unknown}
+use Rattle.rt_check_faults.specs.Outcomes.{Outcome, unknown, told, or_any}
 use Rattle.rt_exprs.specs.Operands.{Found, Judged, place, if_known, first_field, field_of, is_label, unless_label, if_known_mode}
 use Rattle.rt_exprs.specs.Judging.{found, seen_as, field_with}
 use Rattle.rt_exprs.specs.Fitting as f
-use Rattle.rt_exprs.specs.Fitting.{IsBy, ChainIs, Leads, Follows, FitsBy, FitEach, Shows, ShowsChain, ShowsLinks, ShowsLink, Takes, TakeEach, known, told, pair_of, pushed, or_any}
+use Rattle.rt_exprs.specs.Fitting.{IsBy, ChainIs, Leads, Follows, FitsBy, FitEach, Shows, ShowsChain, ShowsLinks, ShowsLink, Takes, TakeEach, known, pushed}
 
 -- ---- fields whose mode is known
 
@@ -40,7 +40,7 @@ field_known records r name k m e n = rw (e, n) refl
 mutual
   pub shows_known : {s : Sight} {e : Expr} {y : Found} → IsBy s e y → Shows s e (Some (known y))
   shows_known (f.is_number o) = f.shows_number o
-  shows_known (f.is_text o i h) = f.shows_text o i h
+  shows_known (f.is_text o i) = f.shows_text o i
   shows_known (f.is_chain o h) = f.shows_chain o (chain_known h)
   shows_known (f.is_val o h t) = f.shows_val o (chain_known h) t
   shows_known (f.is_length o m h t) = f.shows_length o m (shows_known h) t
@@ -105,7 +105,7 @@ field_stays false j i p st k m o w e = (refl, let same : Ok (seen_as j.known j.f
 mutual
   pub is_by : {s : Sight} {e : Expr} {o : Option Judged} (y : Found) → Shows s e o → o ≡ Some (known y) → IsBy s e y
   is_by {s = s} {e = d} y (f.shows_number {n = n} {at = at} o) e = subst (IsBy s d) (found_same _ y e) (f.is_number o)
-  is_by {s = s} {e = d} y (f.shows_text o i h) e = subst (IsBy s d) (found_same _ y e) (f.is_text o i h)
+  is_by {s = s} {e = d} y (f.shows_text o i) e = subst (IsBy s d) (found_same _ y e) (f.is_text o i)
   is_by y (f.shows_chain o h) e = f.is_chain o (chain_is y h e)
   is_by {s = s} {e = d} y (f.shows_val {j = j} o h t) e = subst (IsBy s d) (found_same _ y e) (f.is_val o (chain_is j.found h (all_known j (known_same _ y e))) t)
   is_by y (f.hides_val o h) e = absurd (never y e)

@@ -15,21 +15,21 @@ use Rattle.rt_tree_nodes.specs.declared.statement.Test.{Test}
 use Rattle.rt_tree_nodes.specs.declared.statement.Test.TheVariants as tests
 use Rattle.rt_tree_nodes.specs.declared.value.Place.{Place}
 use Rattle.rt_tree_nodes.specs.declared.value.Value.{Value}
-use Rattle.rt_exprs.specs.declared.fault.CheckFault.{CheckFault}
-use Rattle.rt_exprs.specs.declared.fault.CheckFault.TheVariants as fault
+use Rattle.rt_check_faults.specs.declared.fault.CheckFault.{CheckFault}
+use Rattle.rt_check_faults.specs.declared.fault.CheckFault.TheVariants as fault
 use Rattle.rt_exprs.specs.declared.operand.Standing.TheVariants as standing
 use Rattle.rt_exprs.specs.Sights.{Sight}
 use Rattle.rt_exprs.specs.Modes.{Want}
-use Rattle.rt_exprs.specs.Outcomes.{Outcome, ◌>>=◌, Gives, both, after, earlier, is_unknown, Settles, IsAnswered, IsAnsweredAs}
+use Rattle.rt_check_faults.specs.Outcomes.{Outcome, ◌>>=◌, Gives, both, after, earlier, is_unknown, Settles, IsAnswered, IsAnsweredAs}
 use Rattle.rt_exprs.specs.Operands.{Is, Judged, place, loop, brick, result, done, suits, suits_as, if_known, fits, by_itself}
 use Rattle.rt_exprs.specs.Names.{find}
 use Rattle.rt_exprs.specs.Judging.{judged, judged_chain, seen_as, is_brick, is_whole, place_if, target, assigned, assigned_is, val_target, val, val_by, target_of, alone, call_if, called_is, ends_in_apply, tested, all_from, compares, compare, compare_by, made_rel}
 use Rattle.rt_exprs.specs.Fitting as f
 use Rattle.rt_exprs.specs.Fitting.{known, Shows, ShowsChain, FaultInChain, IsBrickName, AssignsAs, NotAssigned, AssignsValAs, NotAssignedVal, CallIs, NoCall, TestIs, TestsAre, FaultInTest, FaultAmong}
 use Rattle.rt_exprs.proofs.Real.{suits_real}
-use Rattle.rt_exprs.proofs.Told.{Bad, hid, bad, Tells, Either, joined, unknown_first}
+use Rattle.rt_check_faults.proofs.Told.{Bad, hid, bad, Tells, Either, joined, unknown_first}
 use Rattle.rt_exprs.proofs.Trees.{opened_or, opened_and, opened_compare}
-use Rattle.rt_exprs.proofs.Counting.{Stops, exactly, moved, stops_then, stops_both_left, stops_both_right, stops_after_left, stops_after_right, stops_sooner_left, stops_sooner_right, before_same}
+use Rattle.rt_check_faults.proofs.Counting.{Stops, exactly, moved, stops_then, stops_both_left, stops_both_right, stops_after_left, stops_after_right, stops_sooner_left, stops_sooner_right, before_same}
 use Rattle.rt_exprs.proofs.Complete.{is_judged, chain_judged, takes_judged, wrong_as, wrong_known, fault_stops, chain_stops, unfit_stops, nothing_fails, alone_reaches, Fails, Reaches}
 use Rattle.rt_exprs.proofs.Known.{shows_known, chain_known, takes_known, is_by, chain_is, fits_known}
 use Rattle.rt_exprs.proofs.Judged.{answer_holds, answer_as, answer_only, answer_settles, tells_ok, tells_err, bad_is}

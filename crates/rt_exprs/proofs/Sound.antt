@@ -1,8 +1,8 @@
 -- What is found can be known, and a fault that is answered stands.
-use Rattle.std.proofs.Common.{◌≡◌, ℕ, ◌==◌, ◌<◌, Bool, true, false, List, [], ◌∷◌, ◌++◌, length, Option, Some, None, Ok, Err, ◌⊎◌, inl, inr, map, arith, refl, sym, ap, ◌∙◌, subst, append_assoc}
+use Rattle.std.proofs.Common.{◌≡◌, ℕ, ◌==◌, Bool, true, false, List, [], ◌∷◌, ◌++◌, length, Option, Some, None, Ok, Err, ◌⊎◌, inl, inr, map, arith, refl, sym, ap, ◌∙◌, subst, append_assoc}
 use Rattle.std.proofs.lemmas.List.{append-nil, length-map}
 use Rattle.std.proofs.lemmas.Bool.Decides.{nat_tests}
-use Rattle.std.specs.Prelude.{nat_lt, if◌then◌else◌}
+use Rattle.std.specs.Prelude.{if◌then◌else◌}
 use Rattle.rt_grammar.specs.declared.at.At.{At}
 use Rattle.rt_grammar.specs.declared.at.Ident.{Ident}
 use Rattle.rt_syntax_exprs.specs.declared.tree.Op1.{Op1}
@@ -21,21 +21,21 @@ use Rattle.rt_tree_nodes.specs.declared.value.Place.{Place}
 use Rattle.rt_tree_nodes.specs.declared.value.Place.TheVariants as places
 use Rattle.rt_tree_nodes.specs.declared.value.Value.{Value}
 use Rattle.rt_tree_nodes.specs.declared.value.Value.TheVariants as values
-use Rattle.rt_exprs.specs.declared.fault.CheckFault.{CheckFault}
-use Rattle.rt_exprs.specs.declared.fault.CheckFault.TheVariants as fault
+use Rattle.rt_check_faults.specs.declared.fault.CheckFault.{CheckFault}
+use Rattle.rt_check_faults.specs.declared.fault.CheckFault.TheVariants as fault
 use Rattle.rt_exprs.specs.declared.operand.Base.{Base}
 use Rattle.rt_exprs.specs.declared.operand.Base.TheVariants as base
 use Rattle.rt_exprs.specs.declared.operand.Standing.{Standing}
 use Rattle.rt_exprs.specs.Sights.{Sight}
 use Rattle.rt_exprs.specs.Modes.{Want, basic, want}
-use Rattle.rt_exprs.specs.Outcomes.{Outcome, ◌>>=◌, both, after, is_unknown, sooner, unknown}
-use Rattle.rt_exprs.specs.Operands.{Is, Judged, text, place, computed, done, named, first_field, is_label, suits, suits_as, if_known, fits, alone_is, by_itself}
+use Rattle.rt_check_faults.specs.Outcomes.{Outcome, ◌>>=◌, both, after, is_unknown, sooner, unknown, fault_of, told}
+use Rattle.rt_exprs.specs.Operands.{Is, Judged, place, computed, done, named, first_field, is_label, suits, suits_as, if_known, fits, alone_is, by_itself}
 use Rattle.rt_exprs.specs.Names.{find, text_by}
-use Rattle.rt_exprs.specs.Judging.{judged, linked, judged_chain, walk, seen_as, val, val_by, target_of, monadic, monadic_by, of_unknown_by, made_monadic, takes, gives, gives_always, base_in, array_in, of_int, is_shift, fault_of, right_alone, frac_or_int, right_takes, made_dyadic, computes, dyadic, left_first, dot, dot_by, field_at, field_with, record_in, Reach, rows, calls, neither, reach, called, apply_by, all_alone, arguments_from, if_counted}
+use Rattle.rt_exprs.specs.Judging.{judged, linked, judged_chain, walk, seen_as, val, val_by, target_of, monadic, monadic_by, of_unknown_by, made_monadic, takes, gives, gives_always, base_in, array_in, of_int, is_shift, right_alone, frac_or_int, right_takes, made_dyadic, computes, dyadic, left_first, dot, dot_by, field_at, field_with, record_in, Reach, rows, calls, neither, reach, called, apply_by, all_alone, arguments_from, if_counted}
 use Rattle.rt_exprs.specs.Fitting as f
-use Rattle.rt_exprs.specs.Fitting.{Shows, ShowsChain, ShowsLinks, ShowsLink, Takes, TakeEach, Alone, AllAlone, RightAlone, FaultIn, FaultInChain, FaultInLinks, FaultInLink, Unfit, UnfitAmong, UnfitAlone, UnfitSomewhere, Nothing, string_at, Names, told, pair_of, pushed, or_any, with_operands, with_operand}
+use Rattle.rt_exprs.specs.Fitting.{Shows, ShowsChain, ShowsLinks, ShowsLink, Takes, TakeEach, Alone, AllAlone, RightAlone, FaultIn, FaultInChain, FaultInLinks, FaultInLink, Unfit, UnfitAmong, UnfitAlone, UnfitSomewhere, Nothing, string_at, Names, pushed, with_operands, with_operand}
 use Rattle.rt_exprs.proofs.Real.{suits_real}
-use Rattle.rt_exprs.proofs.Told.{Bad, hid, bad, is_it, Tells, Pair, Either, joined, both_tells, or_other_tells, tells_told}
+use Rattle.rt_check_faults.proofs.Told.{Bad, hid, bad, is_it, Tells, Pair, Either, joined, both_tells, or_other_tells, tells_told}
 use Rattle.rt_exprs.proofs.Trees.{opened_number, opened_text, opened_chain, opened_val, opened_monadic, opened_dyadic, opened_dot, opened_apply, chain_as}
 
 abbrev pub SoundIs : Sight → Expr → Outcome Judged → Type 0
@@ -72,15 +72,9 @@ sound_alone s e (Err g) (bad n h) = bad n (f.alone_inside h)
 -- ---- strings
 
 module _ (s : Sight) (e : Expr) (t : List ℕ) (at : At) (o : out-Expr e ≡ Expr-F.Text t at) where
-  near : (n : ℕ) (c : Bool) → nat_lt n 65536 ≡ c → string_at s at ≡ Some n → SoundIs s e (if c then Ok (seen_as true at (text n)) else Err (fault.WrongMode at))
-  near n true test is = f.shows_text o is (grind (arith, nat_tests))
-  near n false test is = bad refl (f.no_string o (λ m e2 small. let same : n ≡ m = cc in not_less n (subst (λ (k : ℕ). k < 65536) (sym same) small) test)) where
-    not_less : (n : ℕ) → n < 65536 → nat_lt n 65536 ≡ false → ⊥
-    not_less n h g = grind (arith, nat_tests)
-
   text_sound : (p : Option ℕ) → string_at s at ≡ p → SoundIs s e (text_by at p)
-  text_sound None is = bad refl (f.no_string o (λ n e2 small. absurd cc))
-  text_sound (Some n) is = near n (nat_lt n 65536) refl is
+  text_sound None is = bad refl (f.no_string o is)
+  text_sound (Some n) is = f.shows_text o is
 
 -- ---- VAL
 

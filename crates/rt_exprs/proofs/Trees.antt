@@ -6,9 +6,9 @@ use Rattle.std.proofs.Math.Seq.{drop-cons}
 use Rattle.std.proofs.lemmas.List.{drop_all}
 use Rattle.rt_modes.specs.declared.mode.Mode.{Mode}
 use Rattle.rt_tree_nodes.specs.declared.value.Value.{Value}
-use Rattle.rt_exprs.specs.declared.fault.CheckFault.{CheckFault}
-use Rattle.rt_exprs.specs.declared.fault.CheckFault.TheVariants.{Memory}
-use Rattle.rt_exprs.proofs.Joins.{told, given, free, sooner_left, sooner_told}
+use Rattle.rt_check_faults.specs.declared.fault.CheckFault.{CheckFault}
+use Rattle.rt_check_faults.specs.declared.fault.CheckFault.TheVariants.{Memory}
+use Rattle.rt_check_faults.proofs.Joins.{told, given, free, sooner_left, sooner_told}
 use Rattle.rt_grammar.specs.declared.at.At.{At}
 use Rattle.rt_grammar.specs.declared.at.Ident.{Ident}
 use Rattle.rt_syntax_exprs.specs.declared.tree.Op1.{Op1}
@@ -23,7 +23,7 @@ use Rattle.rt_syntax_exprs.specs.declared.tree.Link.{Link, out-Link}
 use Rattle.rt_syntax_exprs.specs.declared.tree.Link as links
 use Rattle.rt_syntax_exprs.specs.declared.tree.Link.TheVariants as link
 use Rattle.rt_exprs.specs.Sights.{Sight}
-use Rattle.rt_exprs.specs.Outcomes.{Outcome, ◌>>=◌, Gives, UnlessMemory, sooner}
+use Rattle.rt_check_faults.specs.Outcomes.{Outcome, ◌>>=◌, Gives, UnlessMemory, sooner}
 use Rattle.rt_exprs.specs.Operands.{Judged, judged_of, number, by_itself}
 use Rattle.rt_syntax_exprs.specs.declared.tree.Cond.{Cond, out-Cond}
 use Rattle.rt_syntax_exprs.specs.declared.tree.Cond as conditions

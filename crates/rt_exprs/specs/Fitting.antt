@@ -1,5 +1,5 @@
 -- Which value an expression is where a mode is wanted, and where its faults stand: one case for each rule.
-use Rattle.std.specs.Prelude.{◌≡◌, ◌≢◌, ℕ, ◌==◌, ◌<◌, Bool, true, false, List, [], ◌∷◌, length, Option, Some, None, Result, Ok, Err, position}
+use Rattle.std.specs.Prelude.{◌≡◌, ◌≢◌, ℕ, ◌==◌, Bool, true, false, List, [], ◌∷◌, length, Option, Some, None, Result, Ok, Err, position}
 use Rattle.rt_grammar.specs.declared.at.At.{At}
 use Rattle.rt_grammar.specs.declared.at.Ident.{Ident}
 use Rattle.rt_syntax_exprs.specs.declared.tree.Op1.{Op1}
@@ -20,8 +20,8 @@ use Rattle.rt_tree_nodes.specs.declared.value.Place.{Place}
 use Rattle.rt_tree_nodes.specs.declared.value.Place.TheVariants as places
 use Rattle.rt_tree_nodes.specs.declared.value.Value.{Value}
 use Rattle.rt_tree_nodes.specs.declared.value.Value.TheVariants as values
-use Rattle.rt_exprs.specs.declared.fault.CheckFault.{CheckFault}
-use Rattle.rt_exprs.specs.declared.fault.CheckFault.TheVariants as fault
+use Rattle.rt_check_faults.specs.declared.fault.CheckFault.{CheckFault}
+use Rattle.rt_check_faults.specs.declared.fault.CheckFault.TheVariants as fault
 use Rattle.rt_exprs.specs.declared.operand.Base.{Base}
 use Rattle.rt_exprs.specs.declared.operand.Base.TheVariants as base
 use Rattle.rt_exprs.specs.declared.operand.Standing.{Standing}
@@ -30,7 +30,7 @@ use Rattle.rt_exprs.specs.Sights.{Sight}
 use Rattle.rt_exprs.specs.Modes.{Want, basic, want}
 use Rattle.rt_exprs.specs.Operands.{Is, number, text, place, computed, done, Found, Judged, named, field_of, first_field, is_label, suits, suits_as, alone_is}
 use Rattle.rt_exprs.specs.Names.{find}
-use Rattle.rt_exprs.specs.Outcomes.{Outcome, unknown, is_unknown}
+use Rattle.rt_check_faults.specs.Outcomes.{unknown, is_unknown, pair_of, told, or_any}
 use Rattle.rt_exprs.specs.Judging.{found, seen_as, record_in, field_with, rows, calls, neither, reach, called, target_of, array_in, base_in, frac_or_int, takes, gives, gives_always, made_monadic, of_int, is_shift, right_takes, made_dyadic, is_brick, ends_in_apply, assigned, called_is, compares, made_rel}
 
 -- the number of the string that begins at an item
@@ -52,7 +52,7 @@ mutual
   -- Expression e is f by itself.
   pub data IsBy (s : Sight) : Expr → Found → Type 0 where
     is_number : {e : Expr} {n : ℕ} {at : At} → out-Expr e ≡ Expr-F.Number n at → IsBy s e (found at (number n))
-    is_text : {e : Expr} {t : List ℕ} {n : ℕ} {at : At} → out-Expr e ≡ Expr-F.Text t at → string_at s at ≡ Some n → n < 65536 → IsBy s e (found at (text n))
+    is_text : {e : Expr} {t : List ℕ} {n : ℕ} {at : At} → out-Expr e ≡ Expr-F.Text t at → string_at s at ≡ Some n → IsBy s e (found at (text n))
     is_chain : {e : Expr} {c : Chain} {f : Found} → out-Expr e ≡ Expr-F.Chain c → ChainIs s c f → IsBy s e f
     -- VAL: the place to which a REF leads
     is_val : {e : Expr} {c : Chain} {at : At} {f : Found} {p : Place} {m : Mode} → out-Expr e ≡ Expr-F.Val c at → ChainIs s c f → target_of f.is ≡ Some (p, m)
@@ -102,25 +102,10 @@ mutual
 abbrev pub any_value : Value
 any_value = values.Number 0
 
--- both, where both are known
-abbrev pub pair_of : {A B : Type 0} → Option A → Option B → Option (A × B)
-pair_of (Some a) (Some b) = Some (a, b)
-pair_of _ _ = None
-
 -- all, where all are known
 abbrev pub pushed : {A : Type 0} → Option A → Option (List A) → Option (List A)
 pushed (Some a) (Some rest) = Some (a ∷ rest)
 pushed _ _ = None
-
--- what is said where a thing is known, and where it can't be
-abbrev pub told : {A : Type 0} → Option A → Outcome A
-told None = unknown
-told (Some a) = Ok a
-
--- a thing or another, and whether it is known
-abbrev pub or_any : {A : Type 0} → A → Bool → Option A → A × Bool
-or_any other known None = (other, false)
-or_any other known (Some a) = (a, known)
 
 abbrev pub with_operand : At → Made1 → Base → Option Value → Judged
 with_operand at o b x = let y = or_any any_value true x in seen_as y.1 at (computed (values.Monadic o y.0) b)
@@ -141,7 +126,7 @@ mutual
   -- Expression e is fit, and this can be known of it: what it is by itself, or nothing.
   pub data Shows (s : Sight) : Expr → Option Judged → Type 0 where
     shows_number : {e : Expr} {n : ℕ} {at : At} → out-Expr e ≡ Expr-F.Number n at → Shows s e (Some (seen_as true at (number n)))
-    shows_text : {e : Expr} {t : List ℕ} {n : ℕ} {at : At} → out-Expr e ≡ Expr-F.Text t at → string_at s at ≡ Some n → n < 65536 → Shows s e (Some (seen_as true at (text n)))
+    shows_text : {e : Expr} {t : List ℕ} {n : ℕ} {at : At} → out-Expr e ≡ Expr-F.Text t at → string_at s at ≡ Some n → Shows s e (Some (seen_as true at (text n)))
     shows_chain : {e : Expr} {c : Chain} {o : Option Judged} → out-Expr e ≡ Expr-F.Chain c → ShowsChain s c o → Shows s e o
     shows_val : {e : Expr} {c : Chain} {at : At} {j : Judged} {p : Place} {m : Mode} → out-Expr e ≡ Expr-F.Val c at → ShowsChain s c (Some j) → target_of j.found.is ≡ Some (p, m)
         → Shows s e (Some (seen_as j.known at (place p m standing.Shared)))
@@ -210,7 +195,7 @@ mutual
   -- Fault g stands in expression e, whatever is wanted of it. A node that holds an unfit one isn't judged itself, and what needs what
   -- can't be known isn't; every other part is.
   pub data FaultIn (s : Sight) : Expr → CheckFault → Type 0 where
-    no_string : {e : Expr} {t : List ℕ} {at : At} → out-Expr e ≡ Expr-F.Text t at → ((n : ℕ) → string_at s at ≡ Some n → n < 65536 → ⊥) → FaultIn s e (fault.WrongMode at)
+    no_string : {e : Expr} {t : List ℕ} {at : At} → out-Expr e ≡ Expr-F.Text t at → string_at s at ≡ None → FaultIn s e (fault.WrongMode at)
     in_chain : {e : Expr} {c : Chain} {g : CheckFault} → out-Expr e ≡ Expr-F.Chain c → FaultInChain s c g → FaultIn s e g
     in_val : {e : Expr} {c : Chain} {at : At} {g : CheckFault} → out-Expr e ≡ Expr-F.Val c at → FaultInChain s c g → FaultIn s e g
     no_ref : {e : Expr} {c : Chain} {at : At} {j : Judged} → out-Expr e ≡ Expr-F.Val c at → ShowsChain s c (Some j) → target_of j.found.is ≡ None → FaultIn s e (fault.WrongMode j.found.at)

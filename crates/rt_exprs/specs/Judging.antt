@@ -35,8 +35,8 @@ use Rattle.rt_tree_nodes.specs.declared.value.Place.{Place}
 use Rattle.rt_tree_nodes.specs.declared.value.Place.TheVariants as places
 use Rattle.rt_tree_nodes.specs.declared.value.Value.{Value}
 use Rattle.rt_tree_nodes.specs.declared.value.Value.TheVariants as values
-use Rattle.rt_exprs.specs.declared.fault.CheckFault.{CheckFault}
-use Rattle.rt_exprs.specs.declared.fault.CheckFault.TheVariants as fault
+use Rattle.rt_check_faults.specs.declared.fault.CheckFault.{CheckFault}
+use Rattle.rt_check_faults.specs.declared.fault.CheckFault.TheVariants as fault
 use Rattle.rt_exprs.specs.declared.links.Reach.{Reach as Reached}
 use Rattle.rt_exprs.specs.declared.links.Reach.TheVariants as reaches
 use Rattle.rt_exprs.specs.declared.operand.Base.{Base}
@@ -47,7 +47,7 @@ use Rattle.rt_exprs.specs.declared.scope.Meaning.{Meaning}
 use Rattle.rt_exprs.specs.declared.scope.Meaning.TheVariants as meaning
 use Rattle.rt_exprs.specs.Sights.{Sight}
 use Rattle.rt_exprs.specs.Modes.{Want, basic, ref, row, want, ref_of, record_of, through, array_at, base_of}
-use Rattle.rt_exprs.specs.Outcomes.{Outcome, ◌>>=◌, unknown, both, after, or_fault, or_other, sooner}
+use Rattle.rt_check_faults.specs.Outcomes.{Outcome, ◌>>=◌, unknown, both, after, or_fault, or_other, sooner, fault_of}
 use Rattle.rt_exprs.specs.Names.{find, text_at}
 use Rattle.rt_exprs.specs.Operands.{Is, number, text, brick, place, loop, result, computed, done, Found, Judged, named, first_field, is_label, suits_as, if_known, fits, by_itself}
 
@@ -343,10 +343,6 @@ is_shift op2.Srl = true
 is_shift op2.Sla = true
 is_shift op2.Sra = true
 is_shift _ = false
-
-abbrev pub fault_of : {A : Type 0} → Outcome A → CheckFault
-fault_of (Ok x) = fault.Unknown
-fault_of (Err g) = g
 
 -- the fault of a right operand whose left one isn't known: the count of a shift is INT, another is judged by itself
 abbrev pub right_alone : Op2 → Outcome Judged → CheckFault

@@ -1,7 +1,6 @@
 pub mod Judging
 pub mod Fitting
 pub mod Modes
-pub mod Outcomes
 pub mod Operands
 pub mod Sights
 pub mod Kept

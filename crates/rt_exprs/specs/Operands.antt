@@ -1,5 +1,5 @@
 -- What an expression is by itself, and the value that it is where a mode is wanted.
-use Rattle.std.specs.Prelude.{ℕ, ◌+◌, ◌==◌, ◌||◌, Bool, true, false, nat_le, nat_lt, if◌then◌else◌, List, [], ◌∷◌, Option, Some, None, Ok, Err, slice_get}
+use Rattle.std.specs.Prelude.{ℕ, ◌+◌, ◌==◌, ◌||◌, Bool, true, false, nat_le, if◌then◌else◌, List, [], ◌∷◌, Option, Some, None, Ok, Err, slice_get}
 use Rattle.std.specs.Str.{bytes_eq}
 use Rattle.rt_grammar.specs.declared.at.At.{At}
 use Rattle.rt_modes.specs.declared.mode.Field.{Field}
@@ -10,7 +10,7 @@ use Rattle.rt_tree_nodes.specs.declared.value.Place.{Place}
 use Rattle.rt_tree_nodes.specs.declared.value.Place.TheVariants as places
 use Rattle.rt_tree_nodes.specs.declared.value.Value.{Value}
 use Rattle.rt_tree_nodes.specs.declared.value.Value.TheVariants as values
-use Rattle.rt_exprs.specs.declared.fault.CheckFault.TheVariants as fault
+use Rattle.rt_check_faults.specs.declared.fault.CheckFault.TheVariants as fault
 use Rattle.rt_exprs.specs.declared.operand.Base.{Base}
 use Rattle.rt_exprs.specs.declared.operand.Base.TheVariants as base
 use Rattle.rt_exprs.specs.declared.operand.Meant.{Meant}
@@ -23,8 +23,8 @@ use Rattle.rt_exprs.specs.declared.operand.Wanted.TheVariants as wanted
 use Rattle.rt_exprs.specs.declared.scope.Meaning.{Meaning}
 use Rattle.rt_exprs.specs.declared.scope.Meaning.TheVariants as meaning
 use Rattle.rt_exprs.specs.Modes.{Layer, Want, basic, ref, row, proc, nothing, same, becomes, basic_becomes, is_ref, is_row, is_proc, is_byte, is_int, only_if}
-use Rattle.rt_exprs.specs.declared.fault.CheckFault.{CheckFault}
-use Rattle.rt_exprs.specs.Outcomes.{Outcome, ◌>>=◌, or_fault, unknown}
+use Rattle.rt_check_faults.specs.declared.fault.CheckFault.{CheckFault}
+use Rattle.rt_check_faults.specs.Outcomes.{Outcome, ◌>>=◌, or_fault, unknown}
 
 -- What an expression is by itself: a number, a string, a procedure brick, a place, the variable of a FOR loop, the result
 -- of a call, the result of an operator, or a call without result.
@@ -95,14 +95,9 @@ unfoldable pub field_from : ℕ → List Field → List ℕ → Option (ℕ × M
 field_from k [] name = None
 field_from k (f ∷ fs) name = if bytes_eq f.name name then Some (k, f.mode) else field_from (k + 1) fs name
 
--- a number of more than 16 bits is none
-abbrev pub as_word : {A : Type 0} → Option (ℕ × A) → Option (ℕ × A)
-as_word None = None
-as_word (Some x) = if nat_lt x.0 65536 then Some x else None
-
 abbrev pub field_in : Option RecordDef → List ℕ → Option (ℕ × Mode)
 field_in None name = None
-field_in (Some r) name = as_word (field_from 0 r.fields name)
+field_in (Some r) name = field_from 0 r.fields name
 
 -- the first field of a name in a record, by the record's number
 abbrev pub first_field : List RecordDef → ℕ → List ℕ → Option (ℕ × Mode)

@@ -2,17 +2,17 @@
 
 ghost use Rattle.std.specs.Prelude.{◌≡◌, Ok, [], map, option_map, IfOk, IfErr};
 ghost use Rattle.rt_tree_nodes.specs.declared.statement.Test.{Test};
-ghost use Rattle.rt_exprs.specs.Outcomes.{Settles, IsAnswered};
+ghost use Rattle.rt_check_faults.specs.Outcomes.{Settles, IsAnswered, Gives};
 ghost use Rattle.rt_exprs.specs.Fitting.{TestIs, FaultInTest};
 ghost use Rattle.rt_modes.specs.declared.mode.Mode.TheVariants as mode;
 ghost use Rattle.rt_modes.specs.declared.mode.Mode.{out-Mode};
 ghost use Rattle.rt_exprs.specs.Judging as spec;
 ghost use Rattle.rt_exprs.specs.Operands.{seen, want_of};
-ghost use Rattle.rt_exprs.specs.Outcomes.{Gives};
 
 use crate::expression::{fit_by_itself, fit_wanted, judge};
 use crate::operators::{base_in, frac_or_int};
-use crate::{Base, CheckFault, Meant, Operand, Scope, Wanted, after, both, suits};
+use crate::{Base, Meant, Operand, Scope, Wanted, suits};
+use rt_check_faults::{CheckFault, after, both};
 use rt_modes::Mode;
 use rt_syntax_exprs::{Cond, Expr, Rel};
 use rt_tree::{Rel as MadeRel, Test};

@@ -1,7 +1,7 @@
 //! Expressions and chains.
 
 ghost use Rattle.std.specs.Prelude.{◌≡◌, map, IfOk, IfErr};
-ghost use Rattle.rt_exprs.specs.Outcomes.{Settles, IsAnswered};
+ghost use Rattle.rt_check_faults.specs.Outcomes.{Settles, IsAnswered, Outcome, Gives, UnlessMemory};
 ghost use Rattle.rt_exprs.specs.Fitting.{Fits, Faulty};
 ghost use Rattle.rt_syntax_exprs.specs.declared.tree.Expr.{out-Expr};
 ghost use Rattle.rt_exprs.specs.Judging as spec;
@@ -9,15 +9,14 @@ ghost use Rattle.rt_exprs.specs.Modes.{want};
 ghost use Rattle.rt_exprs.specs.Sights.{Sight};
 ghost use Rattle.std.specs.Option.{option_copied};
 ghost use Rattle.rt_exprs.specs.Operands.{Judged, judged_of, want_of};
-ghost use Rattle.rt_exprs.specs.Outcomes.{Outcome, Gives, UnlessMemory};
 
 use crate::links::{Reach, called, dot, element, reached, val};
 use crate::operators::{dyadic, monadic};
 use crate::suit::by_itself;
 use crate::{
-    Base, CheckFault, Meaning, Meant, Operand, Scope, Wanted, after, find, fits, name_at, text_at,
-    wanted as wanted_of,
+    Base, Meaning, Meant, Operand, Scope, Wanted, find, fits, name_at, text_at, wanted as wanted_of,
 };
+use rt_check_faults::{CheckFault, after};
 use rt_grammar::At;
 use rt_modes::Mode;
 use rt_syntax_exprs::{Chain, Expr, Link};

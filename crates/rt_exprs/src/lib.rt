@@ -3,10 +3,10 @@
 //!
 //! `specs/Sights.antt` says what a node sees, in lists and records: contracts see a [`Level`] and a [`Scope`] so.
 //!
-//! Of one operand: `specs/Outcomes.antt` has the faults of a module and which of them counts, `specs/Names.antt` what names
-//! stand for, `specs/Indexed.antt` the maps by which fields are found, `specs/Modes.antt` and `specs/Operands.antt` the
-//! rules; `specs/Following.antt` says by the REFs in front of a mode what a value is where another mode is wanted
-//! ([`references_are_followed`]).
+//! Of one operand: `specs/Names.antt` has what names stand for, `specs/Indexed.antt` the maps by which fields are found,
+//! `specs/Modes.antt` and `specs/Operands.antt` the rules; `specs/Following.antt` says by the REFs in front of a mode what a
+//! value is where another mode is wanted ([`references_are_followed`]). What can be wrong, and which fault counts, is in
+//! `rt_check_faults`.
 //!
 //! Of the whole: `specs/Fitting.antt` has the definition: relations with one case for each rule, of what fits and of where
 //! faults stand. [`fit`], [`fit_target`], [`fit_val_target`], [`fit_call`] and [`fit_condition`] answer what fits, or else
@@ -17,11 +17,11 @@
 
 mod condition;
 mod expression;
-mod fault;
 mod level;
 mod links;
 mod modes;
 mod names;
+mod numbers;
 mod operand;
 mod operators;
 mod records;
@@ -31,12 +31,12 @@ mod target;
 
 pub use condition::fit_condition;
 pub use expression::{fit, fit_by_itself, fit_nothing, one_value};
-pub use fault::{CheckFault, after, both, or_other};
 pub use level::Level;
 pub use modes::{
     array_at, base_of, lent, record_of, ref_of, references_are_followed, through, wanted,
 };
 pub use names::{find, find_name, name_at, text_at};
+pub use numbers::small_number;
 pub use operand::{Base, Meant, Operand, Standing, Wanted};
 pub use records::{IndexedRecords, field_named};
 pub use scope::{Meaning, Scope};

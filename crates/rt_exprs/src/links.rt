@@ -7,12 +7,13 @@ ghost use Rattle.rt_tree_nodes.specs.declared.value.Callee.TheVariants as callee
 ghost use Rattle.rt_tree_nodes.specs.declared.value.Value.TheVariants as values;
 ghost use Rattle.rt_exprs.specs.Judging as spec;
 ghost use Rattle.rt_exprs.specs.Operands.{Judged, seen, judged_of};
-ghost use Rattle.rt_exprs.specs.Outcomes.{Outcome, Gives};
+ghost use Rattle.rt_check_faults.specs.Outcomes.{Outcome, Gives};
 
 use crate::{
-    CheckFault, IndexedRecords, Meant, Operand, Standing, field_named, lent, or_other, record_of,
-    ref_of, through,
+    IndexedRecords, Meant, Operand, Standing, field_named, lent, record_of, ref_of, small_number,
+    through,
 };
+use rt_check_faults::{CheckFault, or_other};
 use rt_grammar::{At, Ident};
 use rt_modes::Mode;
 use rt_tree::{Callee, Place, Value};
@@ -74,7 +75,7 @@ pub fn dot<'a>(
             None => Err(CheckFault::UnknownName(name.at)),
             Some((_, Mode::Label)) => Err(CheckFault::Unknown),
             Some((field, mode)) => {
-                let place = Place::Field(Boxed::new(alloc, place)?, field);
+                let place = Place::Field(Boxed::new(alloc, place)?, small_number(field)?);
                 Ok(Operand {
                     at: begins,
                     is: Meant::Place(place, mode, standing),

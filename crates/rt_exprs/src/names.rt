@@ -4,12 +4,13 @@ ghost use Rattle.std.specs.Prelude.{◌≡◌};
 ghost use Rattle.std.specs.Option.{option_copied};
 ghost use Rattle.rt_exprs.specs.Names as spec;
 ghost use Rattle.rt_exprs.specs.Operands.{seen, judged_of, named};
-ghost use Rattle.rt_exprs.specs.Outcomes.{Gives};
+ghost use Rattle.rt_check_faults.specs.Outcomes.{Gives};
 
-use crate::fault::CheckFault;
 use crate::level::Level;
+use crate::numbers::small_number;
 use crate::operand::{Meant, Operand, Standing};
 use crate::scope::{Meaning, Scope};
+use rt_check_faults::CheckFault;
 use rt_grammar::At;
 use rt_tree_nodes::Place;
 
@@ -68,11 +69,11 @@ pub fn text_at<'a>(scope: &Scope<'a>, at: At) -> Result<Operand<'a>, CheckFault>
     ensures { Gives judged_of result (spec.text_at scope.now at) }
 {
     match scope.string_at(at.item) {
-        Some(number) if number < 65536 => Ok(Operand {
+        Some(number) => Ok(Operand {
             at,
-            is: Meant::Text(number as u16),
+            is: Meant::Text(small_number(number)?),
             known: true,
         }),
-        _ => Err(CheckFault::WrongMode(at)),
+        None => Err(CheckFault::WrongMode(at)),
     }
 }

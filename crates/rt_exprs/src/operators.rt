@@ -4,12 +4,11 @@ ghost use Rattle.std.specs.Prelude.{◌≡◌, IfOk, Ok};
 ghost use Rattle.rt_modes.specs.declared.mode.Mode.{out-Mode};
 ghost use Rattle.rt_exprs.specs.Judging as spec;
 ghost use Rattle.rt_exprs.specs.Operands.{Judged, seen, judged_of};
-ghost use Rattle.rt_exprs.specs.Outcomes.{Outcome, Gives, UnlessMemory};
+ghost use Rattle.rt_check_faults.specs.Outcomes.{Outcome, Gives, UnlessMemory};
 
 use crate::suit::by_itself;
-use crate::{
-    Base, CheckFault, Meant, Operand, Wanted, array_at, base_of, both, fits, or_other, suits,
-};
+use crate::{Base, Meant, Operand, Wanted, array_at, base_of, fits, suits};
+use rt_check_faults::{CheckFault, both, or_other};
 use rt_grammar::At;
 use rt_modes::Mode;
 use rt_syntax_exprs::{Op1, Op2};

@@ -1,8 +1,8 @@
 //! The records of a module, whose fields are found by their names.
 
-ghost use Rattle.std.specs.Prelude.{◌≡◌, IfOk, OnOk, option_map, slice_get};
+ghost use Rattle.std.specs.Prelude.{◌≡◌, ℕ, IfOk, OnOk, option_map, slice_get};
 ghost use Rattle.rt_exprs.specs.Indexed as spec;
-ghost use Rattle.rt_exprs.specs.Operands.{as_word, first_field};
+ghost use Rattle.rt_exprs.specs.Operands.{first_field};
 
 use indexmap::IndexMap;
 use rt_modes::{Field, Mode, ModeTable, RecordDef};
@@ -66,7 +66,7 @@ pub fn field_named<'a>(
     records: &'a IndexedRecords,
     number: u16,
     name: &[u8],
-) -> Option<(u16, &'a Mode)>
+) -> Option<(usize, &'a Mode)>
     ensures { option_map (λ x. (x.0, x.1.now)) result ≡ first_field records.now.records number name.now }
 {
     let record = usize::from(number);
@@ -75,16 +75,12 @@ pub fn field_named<'a>(
     field_at(definition.fields.as_slice(), field)
 }
 
-/// The field of a number, where the number has 16 bits.
-fn field_at(fields: &[Field], number: usize) -> Option<(u16, &Mode)>
-    ensures { option_map (λ x. (x.0, x.1.now)) result ≡ as_word (option_map (λ f. (number, f.mode)) (slice_get fields.now number)) }
+/// The field of a number.
+fn field_at(fields: &[Field], number: usize) -> Option<(usize, &Mode)>
+    ensures { option_map (λ x. (x.0, x.1.now)) result ≡ option_map {U = ℕ × Mode} (λ f. (number, f.mode)) (slice_get fields.now number) }
 {
     let field = fields.get(number)?;
-    if number < 65536 {
-        Some((number as u16, &field.mode))
-    } else {
-        None
-    }
+    Some((number, &field.mode))
 }
 
 /// The map of each record.

@@ -2,15 +2,15 @@
 
 ghost use Rattle.std.specs.Prelude.{◌≡◌};
 ghost use Rattle.rt_modes.specs.declared.mode.Mode.{out-Mode};
-ghost use Rattle.rt_exprs.specs.declared.fault.CheckFault.TheVariants as fault;
+ghost use Rattle.rt_check_faults.specs.declared.fault.CheckFault.TheVariants as fault;
 ghost use Rattle.rt_exprs.specs.Modes.{is_byte, is_int, is_row, is_ref};
 ghost use Rattle.rt_exprs.specs.Operands as spec;
 ghost use Rattle.rt_exprs.specs.Operands.{Judged, judged_of, want_of};
-ghost use Rattle.rt_exprs.specs.Outcomes.{Outcome, Gives, UnlessMemory, or_fault};
+ghost use Rattle.rt_check_faults.specs.Outcomes.{Outcome, Gives, UnlessMemory, or_fault};
 
-use crate::fault::CheckFault;
 use crate::modes::{basic_becomes, becomes, is_byte, is_int, is_proc, is_ref, is_row, only_if};
 use crate::operand::{Base, Meant, Operand, Standing, Wanted};
+use rt_check_faults::CheckFault;
 use rt_grammar::At;
 use rt_modes::Mode;
 use rt_tree_nodes::{Place, Value};

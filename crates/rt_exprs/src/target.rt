@@ -3,18 +3,18 @@
 ghost use Rattle.std.specs.Prelude.{◌≡◌, Option, IfOk, IfErr};
 ghost use Rattle.rt_modes.specs.declared.mode.Mode.{Mode};
 ghost use Rattle.rt_tree_nodes.specs.declared.value.Place.{Place};
-ghost use Rattle.rt_exprs.specs.Outcomes.{Settles, IsAnswered, IsAnsweredAs};
+ghost use Rattle.rt_check_faults.specs.Outcomes.{Settles, IsAnswered, IsAnsweredAs, Gives};
 ghost use Rattle.rt_exprs.specs.Fitting.{AssignsAs, NotAssigned, AssignsValAs, NotAssignedVal, CallIs, NoCall};
 ghost use Rattle.std.specs.Option.{option_copied};
 ghost use Rattle.rt_modes.specs.declared.mode.Mode.{out-Mode};
 ghost use Rattle.rt_syntax_exprs.specs.declared.tree.Link.{out-Link};
 ghost use Rattle.rt_exprs.specs.Judging as spec;
 ghost use Rattle.rt_exprs.specs.Operands.{judged_of};
-ghost use Rattle.rt_exprs.specs.Outcomes.{Gives};
 
 use crate::expression::judge_chain;
 use crate::links::val;
-use crate::{CheckFault, Meaning, Meant, Operand, Scope, find};
+use crate::{Meaning, Meant, Operand, Scope, find};
+use rt_check_faults::CheckFault;
 use rt_grammar::At;
 use rt_modes::Mode;
 use rt_syntax_exprs::{Chain, Link};

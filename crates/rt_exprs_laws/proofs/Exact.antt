@@ -6,15 +6,15 @@ use Rattle.rt_grammar.specs.declared.at.At.{At}
 use Rattle.rt_syntax_exprs.specs.declared.tree.Chain.{Chain}
 use Rattle.rt_syntax_exprs.specs.declared.tree.Cond.{Cond}
 use Rattle.rt_syntax_exprs.specs.declared.tree.Expr.{Expr}
-use Rattle.rt_exprs.specs.declared.fault.CheckFault.{CheckFault}
-use Rattle.rt_exprs.specs.declared.fault.CheckFault.TheVariants.{Unknown}
+use Rattle.rt_check_faults.specs.declared.fault.CheckFault.{CheckFault}
+use Rattle.rt_check_faults.specs.declared.fault.CheckFault.TheVariants.{Unknown}
 use Rattle.rt_exprs.specs.Sights.{Sight}
 use Rattle.rt_exprs.specs.Fitting.{FitsBy, Unfit, Alone, UnfitAlone, AssignsAs, NotAssigned, AssignsValAs, NotAssignedVal, CallIs, NoCall, TestIs, FaultInTest}
 use Rattle.rt_exprs.specs.Judging.{judged, fitted, fitted_alone, target, val_target, alone, tested}
 use Rattle.rt_exprs.specs.Modes.{Want}
-use Rattle.rt_exprs.specs.Outcomes.{Outcome, IsLeast, is_unknown, is_before, item_of, number_of}
-use Rattle.rt_exprs.proofs.Counting.{Stops}
-use Rattle.rt_exprs.proofs.Told.{is_it, real_before}
+use Rattle.rt_check_faults.specs.Outcomes.{Outcome, IsLeast, is_unknown, is_before, item_of, number_of}
+use Rattle.rt_check_faults.proofs.Counting.{Stops}
+use Rattle.rt_check_faults.proofs.Told.{is_it, real_before}
 use Rattle.rt_exprs.proofs.Complete.{unfit_stops, alone_reaches}
 use Rattle.rt_exprs.proofs.Sound.{sound_alone, expr_sound}
 use Rattle.rt_exprs.proofs.Judged.{least_of, none_stands as none_behind, bad_is, fit_holds, fit_found, fit_stands}

@@ -1,6 +1,6 @@
 -- What fits an expression is well typed, by the rules by which it fits.
 use Rattle.std.proofs.Common.{◌≡◌, ℕ, suc, ◌<◌, ◌==◌, ◌&&◌, Bool, true, false, List, [], ◌∷◌, length, Option, Some, None, Ok, Err, inl, inr, map, arith, refl, sym, ap, ◌∙◌, subst, if◌then◌else◌}
-use Rattle.std.specs.Prelude.{nat_lt, slice_get}
+use Rattle.std.specs.Prelude.{slice_get}
 use Rattle.std.proofs.lemmas.Bool.Decides.{nat_tests}
 use Rattle.std.proofs.lemmas.List.Quantifiers.{position-Some}
 use Rattle.rt_grammar.specs.declared.at.At.{At}
@@ -23,7 +23,7 @@ use Rattle.rt_tree_nodes.specs.declared.value.Value.{Value}
 use Rattle.rt_tree_nodes.specs.declared.value.Value.TheVariants as values
 use Rattle.rt_tree_nodes.specs.Scopes.{Scope, field_mode, field_at as field_numbered}
 use Rattle.rt_tree_nodes.specs.Typing.{suits, valued, all_suit, is_byte, dyadic_mode}
-use Rattle.rt_exprs.specs.declared.fault.CheckFault.TheVariants as fault
+use Rattle.rt_check_faults.specs.declared.fault.CheckFault.TheVariants as fault
 use Rattle.rt_exprs.specs.declared.operand.Base.{Base}
 use Rattle.rt_exprs.specs.declared.operand.Base.TheVariants as base
 use Rattle.rt_exprs.specs.declared.operand.Standing.{Standing}
@@ -33,8 +33,8 @@ use Rattle.rt_exprs.specs.declared.scope.Meaning.TheVariants as meaning
 use Rattle.rt_exprs.specs.Sights.{Sight}
 use Rattle.rt_exprs.specs.Modes.{Want, basic, want}
 use Rattle.rt_exprs.specs.Names.{find}
-use Rattle.rt_exprs.specs.Operands.{Is, number, text, brick, place, loop, result, computed, done, Found, named, field_from, as_word, field_in, field_of, first_field, is_label, unless_label, if_known_mode, suits_by}
-use Rattle.rt_exprs.specs.Outcomes.{Outcome}
+use Rattle.rt_exprs.specs.Operands.{Is, number, text, brick, place, loop, result, computed, done, Found, named, field_in, field_of, first_field, is_label, unless_label, if_known_mode, suits_by}
+use Rattle.rt_check_faults.specs.Outcomes.{Outcome}
 use Rattle.rt_exprs.specs.Fitting as f
 use Rattle.rt_exprs.specs.Fitting.{IsBy, ChainIs, Leads, Follows, FitsBy, FitEach, string_at}
 use Rattle.rt_exprs.specs.Judging.{base_in, takes, frac_or_int, right_takes, made_dyadic}
@@ -96,21 +96,13 @@ pub record FieldThere (records : List RecordDef) (r k : ℕ) (m : Mode) : Type 0
   pub is : slice_get records r ≡ Some record_of
   pub numbered : field_numbered record_of.fields k ≡ Some m
 
-kept_word : (y x : ℕ × Mode) (b : Bool) → (if b then Some y else None) ≡ Some x → y ≡ x
-kept_word y x true e = cc
-kept_word y x false e = absurd cc
-
-as_word_is : (o : Option (ℕ × Mode)) (x : ℕ × Mode) → as_word o ≡ Some x → o ≡ Some x
-as_word_is None x e = absurd cc
-as_word_is (Some y) x e = ap (λ (z : ℕ × Mode). Some z) (kept_word y x (nat_lt y.0 65536) e)
-
 numbered_by : (fs : List Field) (k : ℕ) (m : Mode) → FieldIs fs 0 k m → field_numbered fs k ≡ Some m
 numbered_by fs k m g = let e : k ≡ g.at = omega (arith, g.number) in rw e g.mode
 
 field_there : (records : List RecordDef) (r : ℕ) (name : List ℕ) (x : ℕ × Mode) (o : Option RecordDef) → slice_get records r ≡ o → field_in o name ≡ Some x → FieldThere records r x.0 x.1
 field_there records r name x None p e = absurd cc
 field_there records r name x (Some d) p e =
-    let n = numbered_by d.fields x.0 x.1 (field_found 0 d.fields name x (as_word_is (field_from 0 d.fields name) x e)) in
+    let n = numbered_by d.fields x.0 x.1 (field_found 0 d.fields name x e) in
     record { mode = rw p n; record_of = d; is = p; numbered = n }
 
 -- a field whose mode is known is the first of its name
@@ -186,7 +178,7 @@ module _ (s : Sight) (c : Scope) (agree : Agree s c) where
   mutual
     pub is_typed : {e : Expr} {g : Found} → IsBy s e g → IsTyped c g.is
     is_typed (f.is_number o) = tt
-    is_typed (f.is_text {n = n} {at = at} o p l) = text_typed at n p
+    is_typed (f.is_text {n = n} {at = at} o p) = text_typed at n p
     is_typed (f.is_chain o h) = chain_typed h
     is_typed (f.is_val {f = g} o h t) = subst (TargetTyped c) t (target_typed c g.is (chain_typed h))
     is_typed (f.is_length {f = g} {p = p} o n h t) = length_value c p ∙ subst (LengthTyped c) t (length_typed c g.is (is_typed h))

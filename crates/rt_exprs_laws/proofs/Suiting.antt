@@ -14,8 +14,8 @@ use Rattle.rt_tree_nodes.specs.declared.value.Value.TheVariants as values
 use Rattle.rt_tree_nodes.specs.Scopes.{Scope, passes, proc_mode, same}
 use Rattle.rt_tree_nodes.specs.Typing.{Valued, Found, Variable, Shared, Private, placed, valued, suits, is_byte, is_value, read_mode, value_mode, reference_by}
 use Rattle.rt_tree_nodes.proofs.Same.{same_equal, same_itself}
-use Rattle.rt_exprs.specs.declared.fault.CheckFault.{CheckFault}
-use Rattle.rt_exprs.specs.declared.fault.CheckFault.TheVariants as fault
+use Rattle.rt_check_faults.specs.declared.fault.CheckFault.{CheckFault}
+use Rattle.rt_check_faults.specs.declared.fault.CheckFault.TheVariants as fault
 use Rattle.rt_exprs.specs.declared.operand.Base.{Base}
 use Rattle.rt_exprs.specs.declared.operand.Base.TheVariants as base
 use Rattle.rt_exprs.specs.declared.operand.Standing.{Standing}
@@ -23,7 +23,7 @@ use Rattle.rt_exprs.specs.declared.operand.Standing.TheVariants as standing
 use Rattle.rt_exprs.specs.Following.{Becomes, followed_to, widened, refs, followed}
 use Rattle.rt_exprs.specs.Modes.{nothing, want, want_by, becomes, basic_becomes, past, only_if, is_ref, is_row, is_proc, is_int as is_int_layer, is_byte as is_byte_layer, same as names_same}
 use Rattle.rt_exprs.specs.Operands.{Is, number, text, brick, place, loop, result, computed, done, suits_by, number_fits, row_by, refer, place_suits}
-use Rattle.rt_exprs.specs.Outcomes.{Outcome, or_fault}
+use Rattle.rt_check_faults.specs.Outcomes.{Outcome, or_fault}
 use Rattle.rt_exprs.proofs.Following.{becomes_follows}
 use Rattle.rt_exprs.proofs.Same.{same_equal as names_equal}
 use Rattle.rt_exprs_laws.specs.Agreeing.{stands, IsItem, IsValue}

@@ -4,13 +4,13 @@ use Rattle.rt_grammar.specs.declared.at.At.{At}
 use Rattle.rt_syntax_exprs.specs.declared.tree.Chain.{Chain}
 use Rattle.rt_syntax_exprs.specs.declared.tree.Cond.{Cond}
 use Rattle.rt_syntax_exprs.specs.declared.tree.Expr.{Expr}
-use Rattle.rt_exprs.specs.declared.fault.CheckFault.{CheckFault}
-use Rattle.rt_exprs.specs.declared.fault.CheckFault.TheVariants.{Unknown}
+use Rattle.rt_check_faults.specs.declared.fault.CheckFault.{CheckFault}
+use Rattle.rt_check_faults.specs.declared.fault.CheckFault.TheVariants.{Unknown}
 use Rattle.rt_exprs.specs.Sights.{Sight}
 use Rattle.rt_exprs.specs.Fitting.{FitsBy, Unfit, UnfitAlone, AssignsAs, NotAssigned, AssignsValAs, NotAssignedVal, CallIs, NoCall, TestIs, FaultInTest}
 use Rattle.rt_exprs.specs.Judging.{fitted, fitted_alone, target, val_target, alone, tested}
 use Rattle.rt_exprs.specs.Modes.{Want}
-use Rattle.rt_exprs.specs.Outcomes.{Outcome, IsLeast, is_unknown, item_of, number_of}
+use Rattle.rt_check_faults.specs.Outcomes.{Outcome, IsLeast, is_unknown, item_of, number_of}
 
 -- two faults of one item and one number
 pub record Alike (f g : CheckFault) : Type 0 where

@@ -32,7 +32,7 @@ module _ (s : Sight) (c : Scope) (k : Started) (short : AllShort c) (locals : Lo
   mutual
     pub is_seen : {e : Expr} {g : Found} → IsBy s e g → words_in_expr e ≡ true → IsSeen c k g.is
     is_seen {e = e} (f.is_number {n = n} {at = at} o) w = word_below n (sym (number_words e n at o) ∙ w)
-    is_seen (f.is_text o p l) w = tt
+    is_seen (f.is_text o p) w = tt
     is_seen {e = e} (f.is_chain {c = h} o i) w = chain_seen i (sym (chain_words e h o) ∙ w)
     is_seen {e = e} (f.is_val {c = h} {at = at} {f = g} o i t) w = subst (TargetSeen c k) t (target_seen c k g.is (chain_seen i (sym (val_words e h at o) ∙ w)))
     is_seen {e = e} (f.is_length {a = a} {op = op} {at = at} {f = g} {p = p} o n i t) w = length_seen k c p (subst (AnyPlaceSeen c k) t (array_seen c k g.is (is_seen i (sym (monadic_words e a op at o) ∙ w))))

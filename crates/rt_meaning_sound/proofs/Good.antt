@@ -25,11 +25,11 @@ use Rattle.rt_tree_nodes.specs.declared.value.Value.TheVariants as values
 use Rattle.rt_tree_nodes.specs.Scopes.{Scope}
 use Rattle.rt_tree_nodes.specs.Tree.{Term, Is}
 use Rattle.rt_tree_nodes.specs.Typing.{Placed, Valued, Spot, OnLocal, OnPath, OnRow, placed, valued}
-use Rattle.rt_exprs.specs.Outcomes.{Outcome, ◌>>=◌}
+use Rattle.rt_check_faults.specs.Outcomes.{Outcome, ◌>>=◌}
 use Rattle.rt_exprs.specs.declared.scope.Meaning.{Meaning}
 use Rattle.rt_exprs.specs.declared.scope.Meaning.TheVariants as meaning
-use Rattle.rt_exprs.specs.declared.fault.CheckFault.{CheckFault}
-use Rattle.rt_exprs.specs.declared.fault.CheckFault.TheVariants as fault
+use Rattle.rt_check_faults.specs.declared.fault.CheckFault.{CheckFault}
+use Rattle.rt_check_faults.specs.declared.fault.CheckFault.TheVariants as fault
 use Rattle.rt_exprs.specs.Names.{find}
 use Rattle.rt_exprs.specs.Judging.{alone, target, val_target}
 use Rattle.rt_tree.specs.Statements.{starts_at_zero, call_tree, assigned_tree, step_tree, tested}

@@ -1,5 +1,5 @@
 -- Statements with parts name locals where these have a value, where the parts do.
-use Rattle.std.proofs.Common.{◌≡◌, ◌⊎◌, inl, inr, ℕ, ◌+◌, ◌<◌, true, List, [], ◌∷◌, ◌++◌, length, map, Option, Some, None, append_assoc, arith, refl, sym, ap, ◌∙◌, subst}
+use Rattle.std.proofs.Common.{◌≡◌, ◌⊎◌, inl, inr, ℕ, ◌+◌, ◌<◌, true, List, [], ◌∷◌, ◌++◌, map, Option, Some, None, append_assoc, arith, refl, sym, ap, ◌∙◌, subst}
 use Rattle.std.specs.Prelude.{slice_get}
 use Rattle.std.proofs.lemmas.List.{append-nil}
 use Rattle.rt_grammar.specs.declared.at.At.{At}
@@ -34,7 +34,7 @@ use Rattle.rt_check_bodies.specs.Statements as spec
 use Rattle.rt_check_bodies.specs.Statements.{Line, Declared, JudgedBody, JudgedBranch, before, declarations, branches, sequence, bounds_in, variable_of, for_loop, to_loop, int_in, any_int_in}
 use Rattle.rt_bricks_laws.specs.Bodies.{sum, all}
 use Rattle.rt_check_bodies_laws.proofs.Growing.{Pre, pre_then, grew_same, grew_then, Growing, BranchesGrow, grow_found, grow_declarations, grow_sequence, grow_branches, grow_for, grow_to}
-use Rattle.rt_check_bodies_laws.proofs.Sequences.{one_longer, pre_length, pre_get, Fine, fine_before}
+use Rattle.rt_check_bodies_laws.proofs.Sequences.{pre_get, Fine, fine_before}
 use Rattle.rt_bricks_laws.specs.Numbers.{words_in_expr, words_in_any, words_in_cond, words_in_locals, words_in_control}
 use Rattle.rt_check_bodies_laws.proofs.Made.{stat_of, branch_of, made_block, made_while, made_to, made_for, made_if, made_else, made_body, made_branch}
 use Rattle.rt_bricks_laws.proofs.AllLists.{left_of, right_of}

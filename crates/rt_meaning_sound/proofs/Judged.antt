@@ -1,5 +1,5 @@
 -- What is judged fit names only locals that have a value, where the names that are seen do.
-use Rattle.std.proofs.Common.{◌≡◌, ◌<◌, true, length, Some, Ok, subst}
+use Rattle.std.proofs.Common.{◌≡◌, ◌<◌, true, length, Some, Ok}
 use Rattle.std.specs.List.{list_all}
 use Rattle.rt_grammar.specs.declared.at.At.{At}
 use Rattle.rt_syntax_exprs.specs.declared.tree.Chain.{Chain}
@@ -12,7 +12,7 @@ use Rattle.rt_tree_nodes.specs.declared.value.Value.{Value}
 use Rattle.rt_tree_nodes.specs.Scopes.{Scope}
 use Rattle.rt_tree_nodes.specs.Typing.{placed, valued}
 use Rattle.rt_exprs.specs.Modes.{want}
-use Rattle.rt_exprs.specs.Judging.{judged, target, val_target, alone}
+use Rattle.rt_exprs.specs.Judging.{target, val_target, alone}
 use Rattle.rt_exprs.proofs.Judged.{fit_holds}
 use Rattle.rt_exprs.proofs.Others.{target_holds, val_holds, call_holds, test_holds}
 use Rattle.rt_tree.specs.Modules.{local_stands}

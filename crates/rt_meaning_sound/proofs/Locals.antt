@@ -15,9 +15,9 @@ use Rattle.rt_tree_nodes.specs.declared.value.Value.{Value}
 use Rattle.rt_tree_nodes.specs.declared.value.Value.TheVariants as values
 use Rattle.rt_tree_nodes.specs.Scopes.{Scope}
 use Rattle.rt_tree_nodes.specs.Tree.{Seq, Then}
-use Rattle.rt_exprs.specs.declared.fault.CheckFault.TheVariants as fault
+use Rattle.rt_check_faults.specs.declared.fault.CheckFault.TheVariants as fault
 use Rattle.rt_exprs.specs.declared.scope.Meaning.TheVariants as meaning
-use Rattle.rt_exprs.specs.Outcomes.{Outcome}
+use Rattle.rt_check_faults.specs.Outcomes.{Outcome}
 use Rattle.rt_tree.specs.Statements.{starts_at_zero, start_tree, starts_tree}
 use Rattle.rt_check_bodies.specs.declared.tally.Tally.{Tally}
 use Rattle.rt_check_bodies.specs.Parts.{noted_if, next_local, mode_or}
@@ -27,7 +27,7 @@ use Rattle.rt_check_bodies.specs.Statements.{Declared, start_alone, start_in, lo
 use Rattle.rt_bricks_laws.specs.Bodies.{all}
 use Rattle.rt_check_bodies_laws.proofs.Accepted.{local_value}
 use Rattle.rt_check_bodies_laws.proofs.Growing.{Pre, grow_placed, grow_locals, grow_declarations}
-use Rattle.rt_check_bodies_laws.proofs.Sequences.{one_is_there, one_longer, pre_length, pre_get, Fine, fine_before}
+use Rattle.rt_check_bodies_laws.proofs.Sequences.{one_is_there, pre_get, Fine, fine_before}
 use Rattle.rt_bricks_laws.specs.Numbers.{words_in_any, words_in_mode, words_in_local, words_in_locals}
 use Rattle.rt_check_bodies_laws.proofs.Locals.{noted_locals}
 use Rattle.rt_bricks_laws.proofs.AllLists.{left_of, right_of}

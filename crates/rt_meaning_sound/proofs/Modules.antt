@@ -1,5 +1,5 @@
 -- Each procedure of a module in which no fault stands names locals where these have a value.
-use Rattle.std.proofs.Common.{◌≡◌, ℕ, zero, suc, ◌&&◌, Bool, true, List, [], ◌∷◌, ◌++◌, length, map, drop, replicate, Option, Some, None, sym, ap, ◌∙◌, subst}
+use Rattle.std.proofs.Common.{◌≡◌, ℕ, zero, suc, ◌&&◌, Bool, true, List, [], ◌∷◌, ◌++◌, length, map, drop, replicate, Option, Some, sym, ap, ◌∙◌, subst}
 use Rattle.std.specs.List.{AllByRecursion}
 use Rattle.rt_bricks.specs.declared.tree.Declaration.{Declaration}
 use Rattle.rt_bricks.specs.declared.tree.Declaration.TheVariants as declares
@@ -44,9 +44,8 @@ use Rattle.rt_check_bodies_laws.proofs.Modules.{fitting_modes}
 use Rattle.rt_check_bodies_laws.proofs.Procedures.{few_locals}
 use Rattle.rt_check_bodies_laws.proofs.StandingBodies.{locals_stand}
 use Rattle.rt_check_module.specs.declared.filling.Filling.{Filling}
-use Rattle.rt_check_module.specs.Tree.{nothing, first, sort_by, filled, gathered, fillings_in, headings, records, sight, tree, Somewhere, modes_seen}
+use Rattle.rt_check_module.specs.Tree.{nothing, first, sort_by, filled, gathered, fillings_in, headings, records, sight, tree, modes_seen}
 use Rattle.rt_check_module.specs.Faults.{inside}
-use Rattle.rt_check_module.specs.Faults.{Inside}
 use Rattle.rt_check_module_laws.specs.Modules.{IsText, IsFaultless}
 use Rattle.rt_check_module_laws.proofs.Below.{names_below}
 use Rattle.rt_check_module_laws.proofs.Bricks.{drop_joined, filled_joined, headings_counted, fillings_counted}

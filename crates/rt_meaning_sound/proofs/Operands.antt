@@ -13,7 +13,7 @@ use Rattle.rt_tree_nodes.specs.declared.value.Value.{Value}
 use Rattle.rt_tree_nodes.specs.declared.value.Value.TheVariants as values
 use Rattle.rt_tree_nodes.specs.Scopes.{Scope}
 use Rattle.rt_tree_nodes.specs.Typing.{valued, terms_of}
-use Rattle.rt_exprs.specs.declared.fault.CheckFault.TheVariants as fault
+use Rattle.rt_check_faults.specs.declared.fault.CheckFault.TheVariants as fault
 use Rattle.rt_exprs.specs.declared.operand.Base.{Base}
 use Rattle.rt_exprs.specs.declared.operand.Base.TheVariants as base
 use Rattle.rt_exprs.specs.declared.operand.Standing.{Standing}
@@ -22,7 +22,7 @@ use Rattle.rt_exprs.specs.declared.scope.Meaning.{Meaning}
 use Rattle.rt_exprs.specs.declared.scope.Meaning.TheVariants as meaning
 use Rattle.rt_exprs.specs.Modes.{Way, Want, basic, way, way_by, layer_becomes, becomes, basic_becomes, past, same, is_ref, is_row, is_int, only_if, record_of, ref_of, through, array_at, array_by}
 use Rattle.rt_exprs.specs.Operands.{Is, number, text, brick, place, loop, result, computed, done, named, suits_by, refer, wants_reference}
-use Rattle.rt_exprs.specs.Outcomes.{or_fault}
+use Rattle.rt_check_faults.specs.Outcomes.{or_fault}
 use Rattle.rt_exprs.specs.Judging.{record_in, record_behind, shared_record, place_record, Reach, rows, calls, neither, reach, proc_reach, place_reach, result_reach, called, target_of, with_place, array_in, row_result, assigned_is, called_is, is_whole}
 use Rattle.rt_exprs_laws.proofs.Suiting.{or_some}
 use Rattle.rt_meaning_laws.specs.Trees.{Started}

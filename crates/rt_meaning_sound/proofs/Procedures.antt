@@ -15,11 +15,11 @@ use Rattle.rt_tree_nodes.specs.declared.brick.ModuleParts.{ModuleParts}
 use Rattle.rt_tree_nodes.specs.declared.brick.ProcBody.{ProcBody}
 use Rattle.rt_tree_nodes.specs.declared.statement.Body.{Body as BodyMade}
 use Rattle.rt_tree_nodes.specs.Scopes.{Scope, scope_of, with_locals}
-use Rattle.rt_exprs.specs.declared.fault.CheckFault.{CheckFault}
-use Rattle.rt_exprs.specs.declared.fault.CheckFault.TheVariants as fault
+use Rattle.rt_check_faults.specs.declared.fault.CheckFault.{CheckFault}
+use Rattle.rt_check_faults.specs.declared.fault.CheckFault.TheVariants as fault
 use Rattle.rt_exprs.specs.declared.scope.Meaning.{Meaning}
 use Rattle.rt_exprs.specs.declared.scope.Meaning.TheVariants as meaning
-use Rattle.rt_exprs.specs.Outcomes.{Outcome}
+use Rattle.rt_check_faults.specs.Outcomes.{Outcome}
 use Rattle.rt_tree.specs.Modules.{local_stands}
 use Rattle.rt_tree.specs.Statements.{Sight as Seen, closed}
 use Rattle.rt_exprs_laws.specs.Agreeing.{IsThere}

@@ -2,7 +2,7 @@
 
 use rt_case_texts::Stop;
 use rt_check::ModuleFault;
-use rt_exprs::CheckFault;
+use rt_check_faults::CheckFault;
 use std::fmt::Write;
 
 /// Writes a fault: of the checker's ones the number and the line, and the form of what is left out.

@@ -2,8 +2,8 @@
 use Rattle.std.specs.Prelude.{◌≡◌, ℕ, nat_eq, if◌then◌else◌, List, Option, Some, None, option_map}
 use Rattle.rt_pieces.specs.declared.fault.TextFault.{TextFault as ItemFault}
 use Rattle.rt_pieces.specs.declared.fault.TextFault.TheVariants as items
-use Rattle.rt_exprs.specs.declared.fault.CheckFault.{CheckFault}
-use Rattle.rt_exprs.specs.declared.fault.CheckFault.TheVariants as check
+use Rattle.rt_check_faults.specs.declared.fault.CheckFault.{CheckFault}
+use Rattle.rt_check_faults.specs.declared.fault.CheckFault.TheVariants as check
 use Rattle.rt_compile.specs.declared.fault.CompileFault.{CompileFault}
 use Rattle.rt_compile.specs.declared.fault.CompileFault.TheVariants as compile
 use Rattle.rt_report.specs.declared.fault.FaultLine.{FaultLine}

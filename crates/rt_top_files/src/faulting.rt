@@ -6,8 +6,8 @@ ghost use Rattle.rt_top_files.specs.Faulting as spec;
 ghost use Rattle.rt_top_files.specs.Faulting.{IsToldBy};
 
 use crate::reading::{Unaccepted, name_of};
+use rt_check_faults::CheckFault;
 use rt_compile::CompileFault;
-use rt_exprs::CheckFault;
 use rt_pieces::TextFault as ItemFault;
 use rt_report::{FaultLine, Form, TextFault};
 use rt_words::Name;

@@ -1,5 +1,5 @@
 use Rattle.std.proofs.Common.{Ok, sym, subst}
-use Rattle.rt_exprs.specs.Outcomes.{IsAnswered}
+use Rattle.rt_check_faults.specs.Outcomes.{IsAnswered}
 use Rattle.rt_tree.specs.Modules.{every_node_fits}
 use Rattle.rt_tree.specs.Within.{Within}
 use Rattle.rt_check_module.specs.Typed.{IsTyped}

@@ -1,7 +1,7 @@
-use Rattle.std.proofs.Common.{◌≡◌, ap, ◌∙◌, sym, subst}
+use Rattle.std.proofs.Common.{ap, ◌∙◌, sym, subst}
 use Rattle.std.specs.Prelude.{List, Some, None}
 use Rattle.rt_tree_nodes.specs.declared.brick.DataStart.{DataStart}
-use Rattle.rt_exprs.specs.Outcomes.{IsLeast, UnlessMemory}
+use Rattle.rt_check_faults.specs.Outcomes.{IsLeast, UnlessMemory}
 use Rattle.rt_exprs.specs.Sights.{Sight}
 use Rattle.rt_check_starts.specs.Bricks.{BrickFault}
 use Rattle.rt_check_starts.specs.Items.{brick_starts}

@@ -4,7 +4,7 @@ use Rattle.rt_check_module.specs.Tree.{filled, texts_from}
 use Rattle.rt_check.specs.Whole.{Refuses, StringsRise}
 use Rattle.rt_check.proofs.Finished.{AreParts, typed_with, answered}
 use Rattle.rt_check.proofs.Reading.{fit_by, read_refuses, read_parts}
-use Rattle.rt_exprs.proofs.Joins.{given}
+use Rattle.rt_check_faults.proofs.Joins.{given}
 use Rattle.rt_check.proofs.module.read_module.Goals as goal
 
 pub returns-in-Some-clause-fault : goal.returns-in-Some-clause-fault

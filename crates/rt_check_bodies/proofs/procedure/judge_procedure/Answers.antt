@@ -1,10 +1,9 @@
 use Rattle.std.proofs.Common.{◌≡◌, [], IfOk, IfErr, subst}
 use Rattle.rt_tree_nodes.specs.declared.statement.Body.{Body as BodyMade}
-use Rattle.rt_exprs.specs.Outcomes.{IsLeast, IsAnswered, UnlessMemory}
+use Rattle.rt_check_faults.specs.Outcomes.{IsLeast, IsAnswered, UnlessMemory}
 use Rattle.rt_check_declared.specs.Verdicts.{IsIn}
 use Rattle.rt_check_bodies.specs.declared.tally.Tally.{Tally}
 use Rattle.rt_check_bodies.specs.Procedures as spec
-use Rattle.rt_check_bodies.proofs.Told.{counts_unless}
 use Rattle.rt_check_bodies.proofs.Wholes.{whole_is}
 use Rattle.rt_check_bodies.proofs.procedure.judge_procedure.Goals as goal
 
@@ -30,4 +29,4 @@ pub returns-clause-fault : goal.returns-clause-fault
 returns-clause-fault c =
     subst (λ (p : BodyMade × Tally). IfErr c.finished.result (λ g. UnlessMemory g (IsLeast (λ h. IsIn h p.1.faults) g)))
     (whole_is c.args.names.now c.args.brick.now c.in_ok-body.body c.body_in.new.tally c.in_ok-tally.tally c.in_ok-body.ensures.made c.in_ok-tally.ensures)
-    (counts_unless (λ h. IsIn h c.body_in.new.tally.faults) c.finished.result c.finished.ensures.fault)
+    c.finished.ensures.fault

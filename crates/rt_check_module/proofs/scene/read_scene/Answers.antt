@@ -3,7 +3,7 @@ use Rattle.rt_check_declared.specs.Names.{name_faults, scope}
 use Rattle.rt_check_declared.specs.Bricks.{bricks, brick_faults}
 use Rattle.rt_check_module.specs.Levels.{mode_names}
 use Rattle.rt_modes.specs.declared.mode.ModeTable.{ModeTable}
-use Rattle.rt_exprs.specs.declared.fault.CheckFault.{CheckFault}
+use Rattle.rt_check_faults.specs.declared.fault.CheckFault.{CheckFault}
 use Rattle.rt_exprs.specs.Names.{find_in}
 use Rattle.rt_check_declared.specs.Records.{Counts, table}
 use Rattle.rt_check_declared.specs.Records.{Stands as StandsInModes}

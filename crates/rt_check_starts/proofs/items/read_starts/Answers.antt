@@ -1,6 +1,6 @@
 use Rattle.std.proofs.Common.{Option, subst}
 use Rattle.rt_check_declared.specs.Totals.{LargeFault}
-use Rattle.rt_exprs.specs.declared.fault.CheckFault.{CheckFault}
+use Rattle.rt_check_faults.specs.declared.fault.CheckFault.{CheckFault}
 use Rattle.rt_check_declared.specs.Records.{Counts}
 use Rattle.rt_check_starts.proofs.Judged.{item_counts, whole_counts, none_in_brick, are_starts}
 use Rattle.rt_check_starts.proofs.items.read_starts.Goals as goal

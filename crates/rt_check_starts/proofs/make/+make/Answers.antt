@@ -8,9 +8,9 @@ use Rattle.rt_check_starts.specs.Starts.{elements, fields, nothing, each_made, f
 use Rattle.rt_check_starts.proofs.Lists.{list_made, text_is_made, a_list, wanted_there}
 use Rattle.rt_check_starts.proofs.make.+make.Goals as goal
 
-pub make_start-returns-in-Text : goal.make_start-returns-in-Text
-make_start-returns-in-Text t c =
-    text_is_made c.args.scope.now.records (find c.args.scope.now) c.args.scope.now.strings c.args.start.now c.in-Text.bytes c.as_slice.result.now c.in-Text.at c.number_of.result c.args.mode.now c.make_text.result c.in-Text.is c.as_slice.ensures c.number_of.ensures c.make_text.ensures
+pub make_start-returns-in_ok-number-in-Text : goal.make_start-returns-in_ok-number-in-Text
+make_start-returns-in_ok-number-in-Text t c =
+    text_is_made c.args.scope.now.records (find c.args.scope.now) c.args.scope.now.strings c.args.start.now c.in-Text.bytes c.as_slice.result.now c.in-Text.at c.in_ok-number-in-Text.number c.args.mode.now c.make_text.result c.in-Text.is c.as_slice.ensures c.in_ok-number-in-Text.ensures.number c.make_text.ensures
 
 pub make_start-returns-in_ok-made-in-Elements : goal.make_start-returns-in_ok-made-in-Elements
 make_start-returns-in_ok-made-in-Elements t c =

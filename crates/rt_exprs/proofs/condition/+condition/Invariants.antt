@@ -1,7 +1,7 @@
 use Rattle.std.proofs.Common.{◌≡◌, Ok, List, [], map, drop}
 use Rattle.rt_tree_nodes.specs.declared.statement.Test.{Test}
 use Rattle.rt_exprs.specs.Judging as spec
-use Rattle.rt_exprs.specs.Outcomes.{Outcome, Gives}
+use Rattle.rt_check_faults.specs.Outcomes.{Outcome, Gives}
 use Rattle.rt_exprs.proofs.condition.+condition.Given as goal
 
 abbrev pub invariant-fit_all-loop-condition : goal.invariant-fit_all-loop-condition

@@ -1,7 +1,7 @@
 use Rattle.std.proofs.Common.{◌≡◌, Err, None, Option, option_map, sym, subst, ◌∙◌, ap}
-use Rattle.rt_exprs.specs.declared.fault.CheckFault.{CheckFault}
+use Rattle.rt_check_faults.specs.declared.fault.CheckFault.{CheckFault}
 use Rattle.rt_exprs.specs.declared.operand.Wanted.{Wanted}
-use Rattle.rt_exprs.specs.Outcomes.{UnlessMemory}
+use Rattle.rt_check_faults.specs.Outcomes.{UnlessMemory}
 use Rattle.rt_exprs.specs.Judging as spec
 use Rattle.rt_exprs.specs.Operands.{judged_of, want_of}
 use Rattle.rt_exprs.proofs.Joins.{compare_err, unwanted_err}

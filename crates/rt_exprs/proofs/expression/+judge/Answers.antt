@@ -2,7 +2,7 @@ use Rattle.std.proofs.Common.{◌≡◌, ◌≤◌, min, length, refl, arith}
 use Rattle.rt_exprs.specs.Judging as spec
 use Rattle.rt_exprs.specs.Names.{find}
 use Rattle.rt_syntax_exprs.specs.declared.tree.Chain.{out-Chain}
-use Rattle.rt_exprs.proofs.Joins.{given}
+use Rattle.rt_check_faults.proofs.Joins.{given}
 use Rattle.rt_exprs.proofs.Trees.{judged_number, judged_text, judged_chained, judged_val, judged_monadic, judged_dyadic, linked_dot, follow_apply, follow_alone, alone_next, chain_ends, arguments_end}
 use Rattle.rt_exprs.proofs.expression.+judge.Goals as goal
 

@@ -1,9 +1,9 @@
 use Rattle.std.proofs.Common.{◌≡◌, List, map, drop}
 use Rattle.rt_tree_nodes.specs.declared.value.Value.{Value}
-use Rattle.rt_exprs.specs.declared.fault.CheckFault.{CheckFault}
+use Rattle.rt_check_faults.specs.declared.fault.CheckFault.{CheckFault}
 use Rattle.rt_exprs.specs.Judging as spec
 use Rattle.rt_exprs.specs.Operands.{Judged, judged_of}
-use Rattle.rt_exprs.specs.Outcomes.{Outcome, Gives, UnlessMemory}
+use Rattle.rt_check_faults.specs.Outcomes.{Outcome, Gives, UnlessMemory}
 use Rattle.rt_exprs.proofs.expression.+judge.Given as goal
 
 abbrev pub invariant-judge_chain-loop-link : goal.invariant-judge_chain-loop-link

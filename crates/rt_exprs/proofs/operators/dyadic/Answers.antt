@@ -1,8 +1,8 @@
 use Rattle.std.proofs.Common.{Result, sym, ◌∙◌, subst}
 use Rattle.rt_exprs.specs.declared.operand.Operand.{Operand}
 use Rattle.rt_exprs.specs.Operands.{judged_of}
-use Rattle.rt_exprs.specs.declared.fault.CheckFault.{CheckFault}
-use Rattle.rt_exprs.specs.Outcomes.{Gives}
+use Rattle.rt_check_faults.specs.declared.fault.CheckFault.{CheckFault}
+use Rattle.rt_check_faults.specs.Outcomes.{Gives}
 use Rattle.rt_exprs.proofs.Joins.{dyadic_err}
 use Rattle.rt_exprs.proofs.operators.dyadic.Goals as goal
 

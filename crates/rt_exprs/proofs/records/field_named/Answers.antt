@@ -1,7 +1,7 @@
 use Rattle.std.proofs.Common.{ℕ, List, option_map, sym, ap, ◌∙◌}
 use Rattle.rt_modes.specs.declared.mode.Field.{Field}
 use Rattle.rt_modes.specs.declared.mode.ModeTable.{ModeTable}
-use Rattle.rt_exprs.specs.Operands.{as_word, first_field}
+use Rattle.rt_exprs.specs.Operands.{first_field}
 use Rattle.rt_exprs.proofs.Indexing.{found_in, numbered, finds_none, finds_some}
 use Rattle.rt_exprs.proofs.records.field_named.Goals as goal
 
@@ -21,7 +21,7 @@ returns-in_err-field c =
 
 pub returns : goal.returns
 returns c =
-    c.field_at.ensures ∙ ap (λ (fs : List Field). as_word (numbered fs c.in_ok-field.field-0.now c.in_ok-field.field-0.now)) c.as_slice.ensures
+    c.field_at.ensures ∙ ap (λ (fs : List Field). numbered fs c.in_ok-field.field-0.now c.in_ok-field.field-0.now) c.as_slice.ensures
     ∙ finds_some c.records.inside.table.records c.records.inside.numbers c.records.invariant c.from-record.result c.args.name.now c.in_ok-definition.definition.now c.in_ok-field.field-0.now (sym c.in_ok-definition.ensures.value) (ap (λ o. found_in o c.args.name.now) (sym c.in_ok-get.ensures.value) ∙ sym c.in_ok-field.ensures.value)
     ∙ ap (λ (n : ℕ). first_field c.records.inside.table.records n c.args.name.now) c.from-record.ensures
     ∙ ap (λ (t : ModeTable). first_field t.records c.args.number c.args.name.now) c.records.view_is

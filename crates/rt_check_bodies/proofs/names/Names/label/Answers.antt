@@ -1,7 +1,7 @@
 use Rattle.std.proofs.Common.{ℕ, List, Option, subst, ap, ◌∙◌}
 use Rattle.rt_exprs.specs.declared.scope.Meaning.{Meaning}
 use Rattle.rt_exprs.specs.Names.{find}
-use Rattle.rt_exprs.specs.Outcomes.{Gives}
+use Rattle.rt_check_faults.specs.Outcomes.{Gives}
 use Rattle.rt_check_bodies.specs.Sights as spec
 use Rattle.rt_check_bodies.proofs.names.Names.label.Goals as goal
 

@@ -1,5 +1,5 @@
 use Rattle.std.proofs.Common.{sym, subst}
-use Rattle.rt_exprs.specs.Outcomes.{Outcome, Gives, ◌>>=◌}
+use Rattle.rt_check_faults.specs.Outcomes.{Outcome, Gives, ◌>>=◌}
 use Rattle.rt_check_declared.specs.declared.written.Resolved.{Resolved}
 use Rattle.rt_check_bodies.specs.Sights.{variable_by}
 use Rattle.rt_check_bodies.proofs.names.Names.mode.Goals as goal

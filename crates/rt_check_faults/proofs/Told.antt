@@ -1,10 +1,9 @@
 -- What is answered of parts that are judged apart: what can be known of them, or a fault that stands.
 use Rattle.std.proofs.Common.{◌≡◌, Bool, true, false, Option, Some, None, Ok, Err, ◌⊎◌, inl, inr, refl, sym, subst}
 use Rattle.std.specs.Prelude.{if◌then◌else◌, not, ◌&&◌, ◌||◌}
-use Rattle.rt_exprs.specs.declared.fault.CheckFault.{CheckFault}
-use Rattle.rt_exprs.specs.declared.fault.CheckFault.TheVariants.{Memory, UnknownName, WrongMode, NotAssignable, WrongCount, RefOfLocal, LeftOut, DeclaredTwice, BadStart, UnknownLabel, NoResult, Unknown}
-use Rattle.rt_exprs.specs.Outcomes.{Outcome, ◌>>=◌, both, sooner, is_before, is_unknown, stands_before, or_other}
-use Rattle.rt_exprs.specs.Fitting.{pair_of, told, or_any}
+use Rattle.rt_check_faults.specs.declared.fault.CheckFault.{CheckFault}
+use Rattle.rt_check_faults.specs.declared.fault.CheckFault.TheVariants.{Memory, UnknownName, WrongMode, NotAssignable, WrongCount, RefOfLocal, LeftOut, DeclaredTwice, BadStart, UnknownLabel, NoResult, Unknown}
+use Rattle.rt_check_faults.specs.Outcomes.{Outcome, ◌>>=◌, both, sooner, is_before, is_unknown, stands_before, or_other, pair_of, told, or_any}
 
 -- H holds where it can't be known, and F of a fault that stands
 pub data Bad (H : Type 0) (F : CheckFault → Type 0) : CheckFault → Type 0 where

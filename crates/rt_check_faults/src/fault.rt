@@ -1,8 +1,8 @@
 //! What can be wrong with an expression, and with the module that holds it.
 
 ghost use Rattle.std.specs.Prelude.{◌≡◌, List};
-ghost use Rattle.rt_exprs.specs.Outcomes as spec;
-ghost use Rattle.rt_exprs.specs.Outcomes.{Outcome, Gives};
+ghost use Rattle.rt_check_faults.specs.Outcomes as spec;
+ghost use Rattle.rt_check_faults.specs.Outcomes.{Outcome, Gives};
 
 use rt_grammar::At;
 use rt_words::{List, Memory};
@@ -51,7 +51,7 @@ pub enum CheckFault {
 
 impl From<Memory> for CheckFault {
     ghost use Rattle.std.specs.Prelude.{◌≡◌};
-    ghost use Rattle.rt_exprs.specs.declared.fault.CheckFault.TheVariants as fault;
+    ghost use Rattle.rt_check_faults.specs.declared.fault.CheckFault.TheVariants as fault;
 
     ghost from_gives = { λ _ e. e ≡ fault.Memory };
 
@@ -146,7 +146,8 @@ pub fn both<T: Drop, U: Drop>(
     left: Result<T, CheckFault>,
     right: Result<U, CheckFault>,
 ) -> Result<(T, U), CheckFault>
-    ensures { (l : Outcome T) → (r : Outcome U) → Gives (λ v. v) left l → Gives (λ v. v) right r → Gives (λ x. x) result (spec.both l r) }
+    ensures joined { result ≡ spec.both left right }
+    ensures gives { (l : Outcome T) → (r : Outcome U) → Gives (λ v. v) left l → Gives (λ v. v) right r → Gives (λ x. x) result (spec.both l r) }
 {
     match left {
         Ok(x) => match right {
@@ -172,7 +173,8 @@ pub fn after<T: Drop>(
     so_far: Result<List<T>, CheckFault>,
     next: Result<T, CheckFault>,
 ) -> Result<List<T>, CheckFault>
-    ensures { (xs : Outcome (List T)) → (x : Outcome T) → Gives (λ x. x) so_far xs → Gives (λ x. x) next x → Gives (λ x. x) result (spec.after xs x) }
+    ensures joined { Gives (λ x. x) result (spec.after so_far next) }
+    ensures gives { (xs : Outcome (List T)) → (x : Outcome T) → Gives (λ x. x) so_far xs → Gives (λ x. x) next x → Gives (λ x. x) result (spec.after xs x) }
 {
     match so_far {
         Ok(mut found) => match next {
@@ -192,7 +194,8 @@ pub fn or_other<T: Drop>(
     other: T,
     known: bool,
 ) -> Result<(T, bool), CheckFault>
-    ensures { (t : Outcome T) → Gives (λ x. x) value t → Gives (λ x. x) result (spec.or_other other known t) }
+    ensures joined { result ≡ spec.or_other other known value }
+    ensures gives { (t : Outcome T) → Gives (λ x. x) value t → Gives (λ x. x) result (spec.or_other other known t) }
 {
     match value {
         Ok(value) => Ok((value, known)),

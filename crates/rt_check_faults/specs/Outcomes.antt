@@ -1,8 +1,8 @@
 -- What is found, or the first fault: the one at the least item, and of those the one of least number.
 use Rattle.std.specs.Prelude.{◌≡◌, ◌⊎◌, IsTrue, ℕ, Bool, nat_lt, nat_le, ◌==◌, ◌||◌, ◌&&◌, not, true, false, if◌then◌else◌, List, [], ◌∷◌, ◌++◌, Option, Some, None, Result, Ok, Err}
 use Rattle.rt_grammar.specs.declared.at.At.{At}
-use Rattle.rt_exprs.specs.declared.fault.CheckFault.{CheckFault}
-use Rattle.rt_exprs.specs.declared.fault.CheckFault.TheVariants.{Memory, UnknownName, WrongMode, NotAssignable, WrongCount, RefOfLocal, LeftOut, DeclaredTwice, BadStart, UnknownLabel, NoResult, Unknown}
+use Rattle.rt_check_faults.specs.declared.fault.CheckFault.{CheckFault}
+use Rattle.rt_check_faults.specs.declared.fault.CheckFault.TheVariants.{Memory, UnknownName, WrongMode, NotAssignable, WrongCount, RefOfLocal, LeftOut, DeclaredTwice, BadStart, UnknownLabel, NoResult, Unknown}
 
 abbrev pub number_of : CheckFault → ℕ
 number_of Memory = 0
@@ -95,6 +95,26 @@ abbrev pub or_other : {A : Type 0} → A → Bool → Outcome A → Outcome (A �
 or_other other known (Ok x) = Ok (x, known)
 or_other other known (Err Unknown) = Ok (other, false)
 or_other other known (Err g) = Err g
+
+-- the fault of an outcome; where there is none, what can't be known
+abbrev pub fault_of : {A : Type 0} → Outcome A → CheckFault
+fault_of (Ok x) = Unknown
+fault_of (Err g) = g
+
+-- both, where both are known
+abbrev pub pair_of : {A B : Type 0} → Option A → Option B → Option (A × B)
+pair_of (Some a) (Some b) = Some (a, b)
+pair_of _ _ = None
+
+-- what is said where a thing is known, and where it can't be
+abbrev pub told : {A : Type 0} → Option A → Outcome A
+told None = unknown
+told (Some a) = Ok a
+
+-- a thing or another, and whether it is known
+abbrev pub or_any : {A : Type 0} → A → Bool → Option A → A × Bool
+or_any other known None = (other, false)
+or_any other known (Some a) = (a, known)
 
 abbrev pub UnlessMemory : CheckFault → Type 0 → Type 0
 UnlessMemory Memory P = Unit {0}

@@ -1,10 +1,10 @@
 -- The fault that counts of several.
-use Rattle.std.proofs.Common.{◌≡◌, ℕ, ◌==◌, ◌&&◌, ◌||◌, Bool, true, false, not, List, Ok, Err, arith, refl, ◌∙◌}
+use Rattle.std.proofs.Common.{◌≡◌, ℕ, ◌==◌, ◌&&◌, ◌||◌, Bool, true, false, not, List, Ok, Err, arith, refl, sym, ap, ◌∙◌}
 use Rattle.std.proofs.lemmas.Bool.Decides.{nat_tests}
 use Rattle.std.specs.Prelude.{nat_lt, nat_le, if◌then◌else◌}
-use Rattle.rt_exprs.specs.declared.fault.CheckFault.{CheckFault}
-use Rattle.rt_exprs.proofs.Told.{real_left, real_right, or_other_fault}
-use Rattle.rt_exprs.specs.Outcomes.{Outcome, ◌>>=◌, both, after, earlier, sooner, is_before, is_unknown, or_other, item_of, number_of}
+use Rattle.rt_check_faults.specs.declared.fault.CheckFault.{CheckFault}
+use Rattle.rt_check_faults.proofs.Told.{real_left, real_right, or_other_fault}
+use Rattle.rt_check_faults.specs.Outcomes.{Outcome, ◌>>=◌, both, after, earlier, sooner, is_before, is_unknown, or_other, item_of, number_of}
 
 abbrev before : ℕ → ℕ → ℕ → ℕ → Bool
 before i k j n = nat_lt i j || (i == j && nat_le k n)
@@ -127,3 +127,29 @@ stops_sooner_left t f g h e b n = record { first = sooner f g; is = e; counts = 
 
 pub stops_sooner_right : {A : Type 0} (t : Outcome A) (f g h : CheckFault) → t ≡ Err (sooner f g) → is_before g h ≡ true → is_unknown g ≡ false → Stops t h
 stops_sooner_right t f g h e b n = record { first = sooner f g; is = e; counts = before_through_right f g h b; real = real_right f g n }
+
+-- ---- the sooner of several
+
+pub choose_no : {A : Type 0} (b : Bool) (x y : A) → b ≡ false → (if b then x else y) ≡ y
+choose_no b x y e = rw e refl
+
+pub choose_yes : {A : Type 0} (b : Bool) (x y : A) → b ≡ true → (if b then x else y) ≡ x
+choose_yes b x y e = rw e refl
+
+pub sooner_yes : (f g : CheckFault) → is_before f g ≡ true → sooner f g ≡ f
+sooner_yes f g e = choose_yes (is_before f g) f g e
+
+pub sooner_no : (f g : CheckFault) → is_before f g ≡ false → sooner f g ≡ g
+sooner_no f g e = choose_no (is_before f g) f g e
+
+associates : (f g h : CheckFault) (p q : Bool) → is_before f g ≡ p → is_before g h ≡ q → sooner f (sooner g h) ≡ sooner (sooner f g) h
+associates f g h true true e d =
+    ap (sooner f) (sooner_yes g h d) ∙ sooner_yes f g e ∙ sym (ap (λ (x : CheckFault). sooner x h) (sooner_yes f g e) ∙ sooner_yes f h (before_through f g h e d))
+associates f g h true false e d = ap (sooner f) (sooner_no g h d) ∙ sym (ap (λ (x : CheckFault). sooner x h) (sooner_yes f g e))
+associates f g h false true e d =
+    ap (sooner f) (sooner_yes g h d) ∙ sooner_no f g e ∙ sym (ap (λ (x : CheckFault). sooner x h) (sooner_no f g e) ∙ sooner_yes g h d)
+associates f g h false false e d =
+    ap (sooner f) (sooner_no g h d) ∙ sooner_no f h (before_neither f g h e d) ∙ sym (ap (λ (x : CheckFault). sooner x h) (sooner_no f g e) ∙ sooner_no g h d)
+
+pub sooner_assoc : (f g h : CheckFault) → sooner f (sooner g h) ≡ sooner (sooner f g) h
+sooner_assoc f g h = associates f g h (is_before f g) (is_before g h) refl refl
