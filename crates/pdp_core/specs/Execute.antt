@@ -33,9 +33,10 @@ use Rattle.pdp_core.specs.declared.cpu.Kind.TheVariants.{Odd, Reserved, Access, 
 use Rattle.pdp_core.specs.declared.cpu.Failure.{Failure}
 use Rattle.pdp_core.specs.declared.cpu.Stop.{Stop}
 use Rattle.pdp_core.specs.declared.cpu.Stop.TheVariants.{Went, Trap as Service, Fault}
-use Rattle.pdp_core.specs.declared.cpu.Shift.{Shift}
+use Rattle.pdp_values.specs.declared.value.Shift.{Shift}
 use Rattle.pdp_core.specs.declared.cpu.Place.{Place}
 use Rattle.pdp_core.specs.declared.cpu.Place.TheVariants.{InRegister, InMemory, InCode}
+use Rattle.pdp_values.specs.Values.{limit, half, negative, plus, minus, single_value, single_carry, single_overflow, product_of, no_word, too_large, quotient_word, remainder_word, shifted}
 use Rattle.pdp_core.specs.World.{World, fetched, word_read, byte_read, word_written, byte_written}
 
 -- what an instruction leaves
@@ -151,24 +152,6 @@ store w Byte g (InCode a y) x = and_then (of_memory (byte_written w a x)) (λ w2
 abbrev pub flags : Regs → Bool → Bool → Bool → Bool → Regs
 flags g n z v c = record g { n = n; z = z; v = v; c = c }
 
--- how many values a word or a byte has, and half of them
-abbrev pub limit : Size → ℕ
-limit Word = 65536
-limit Byte = 256
-
-abbrev pub half : Size → ℕ
-half Word = 32768
-half Byte = 128
-
-abbrev pub negative : Size → ℕ → Bool
-negative z x = nat_le (half z) x
-
-abbrev pub plus : Size → ℕ → ℕ → ℕ
-plus z a b = (a + b) % limit z
-
-abbrev pub minus : Size → ℕ → ℕ → ℕ
-minus z a b = (a + (limit z - b)) % limit z
-
 -- N and Z by a result
 abbrev pub by_value : Regs → Size → ℕ → Bool → Bool → Regs
 by_value g z x v c = flags g (negative z x) (x == 0) v c
@@ -206,57 +189,6 @@ abbrev pub sum : World → Regs → SumOp → ℕ → Place → Result Outcome F
 sum w g Add x d = and_then (load w Word g d) (λ y. store w Word (by_sum g y x) d (plus Word y x))
 sum w g Sub x d = and_then (load w Word g d) (λ y. store w Word (by_difference g Word y x) d (minus Word y x))
 
-abbrev pub one_if : Bool → ℕ
-one_if b = if b then 1 else 0
-
-abbrev pub half_if : Size → Bool → ℕ
-half_if z b = if b then half z else 0
-
--- what an operation makes of y, with C before it
-abbrev pub single_value : SingleOp → Size → Bool → ℕ → ℕ
-single_value Clr z c y = 0
-single_value Com z c y = limit z - 1 - y
-single_value Inc z c y = plus z y 1
-single_value Dec z c y = minus z y 1
-single_value Neg z c y = minus z 0 y
-single_value Adc z c y = plus z y (one_if c)
-single_value Sbc z c y = minus z y (one_if c)
-single_value Tst z c y = y
-single_value Ror z c y = y / 2 + half_if z c
-single_value Rol z c y = (2 * y + one_if c) % limit z
-single_value Asr z c y = y / 2 + half_if z (negative z y)
-single_value Asl z c y = (2 * y) % limit z
-
--- C after it
-abbrev pub single_carry : SingleOp → Size → Bool → ℕ → ℕ → Bool
-single_carry Clr z c y x = false
-single_carry Com z c y x = true
-single_carry Inc z c y x = c
-single_carry Dec z c y x = c
-single_carry Neg z c y x = not (x == 0)
-single_carry Adc z c y x = y == limit z - 1 && c
-single_carry Sbc z c y x = y == 0 && c
-single_carry Tst z c y x = false
-single_carry Ror z c y x = y % 2 == 1
-single_carry Rol z c y x = negative z y
-single_carry Asr z c y x = y % 2 == 1
-single_carry Asl z c y x = negative z y
-
--- V after it
-abbrev pub single_overflow : SingleOp → Size → Bool → ℕ → ℕ → Bool
-single_overflow Clr z c y x = false
-single_overflow Com z c y x = false
-single_overflow Inc z c y x = y == half z - 1
-single_overflow Dec z c y x = y == half z
-single_overflow Neg z c y x = x == half z
-single_overflow Adc z c y x = y == half z - 1 && c
-single_overflow Sbc z c y x = y == half z && c
-single_overflow Tst z c y x = false
-single_overflow Ror z c y x = differ (negative z x) (y % 2 == 1)
-single_overflow Rol z c y x = differ (negative z x) (negative z y)
-single_overflow Asr z c y x = differ (negative z x) (y % 2 == 1)
-single_overflow Asl z c y x = differ (negative z x) (negative z y)
-
 abbrev pub single_flags : Regs → SingleOp → Size → ℕ → Regs
 single_flags g o z y =
     let x = single_value o z g.c y in
@@ -284,10 +216,6 @@ on_word w g Sxt d = store w Word (flags g g.n (not g.n) false g.c) d (if g.n the
 
 -- ---- a register and an operand
 
--- a word as 32 bits of the same sign
-abbrev pub widened : ℕ → ℕ
-widened x = if nat_lt x 32768 then x else x + 4294901760
-
 -- the word of a register and that of the next, as 32 bits
 abbrev pub pair : Regs → Reg → ℕ
 pair g r = slice_index g.r (reg_code r) * 65536 + slice_index g.r (reg_code r + 1)
@@ -295,38 +223,11 @@ pair g r = slice_index g.r (reg_code r) * 65536 + slice_index g.r (reg_code r + 
 abbrev pub with_pair : Regs → Reg → ℕ → ℕ → Regs
 with_pair g r x y = record g { r = slice_set (slice_set g.r (reg_code r) x) (reg_code r + 1) y }
 
--- the 32 bits of the product of two signed words
-abbrev pub product_of : ℕ → ℕ → ℕ
-product_of a b = (widened a * widened b) % 4294967296
-
--- whether 32 bits stand for a number outside the signed words
-abbrev pub no_word : ℕ → Bool
-no_word x = nat_le 32768 x && nat_lt x 4294934528
-
 -- the registers after a product of 32 bits: the pair of an even register, or the low word in an odd one
 abbrev pub with_product : Regs → Reg → ℕ → Regs
 with_product g r x =
     let f = flags g (nat_le 2147483648 x) (x == 0) false (no_word x) in
     if reg_code r % 2 == 1 then with_reg f r (x % 65536) else with_pair f r (x / 65536) (x % 65536)
-
--- how far a number is from 0, where those from h on stand for themselves less l
-abbrev pub magnitude : ℕ → ℕ → ℕ → ℕ
-magnitude l h x = if nat_le h x then l - x else x
-
--- a word that is as far from 0
-abbrev pub signed_word : Bool → ℕ → ℕ
-signed_word below x = if below then (65536 - x) % 65536 else x
-
--- whether the quotient of a, 32 bits, and b is no word: it is rounded towards zero, below 0 where the signs differ
-abbrev pub too_large : ℕ → ℕ → Bool
-too_large a b = nat_lt (if differ (nat_le 2147483648 a) (nat_le 32768 b) then 32768 else 32767) (magnitude 4294967296 2147483648 a / magnitude 65536 32768 b)
-
-abbrev pub quotient_word : ℕ → ℕ → ℕ
-quotient_word a b = signed_word (differ (nat_le 2147483648 a) (nat_le 32768 b)) (magnitude 4294967296 2147483648 a / magnitude 65536 32768 b)
-
--- the remainder has the sign of a
-abbrev pub remainder_word : ℕ → ℕ → ℕ
-remainder_word a b = signed_word (nat_le 2147483648 a) (magnitude 4294967296 2147483648 a % magnitude 65536 32768 b)
 
 -- a divided by b, where b is not 0; where the quotient is too large, N and Z are 0 and no register is written (a choice
 -- of this project)
@@ -338,31 +239,6 @@ with_quotient g r a b =
 -- where the divisor is 0, N and Z are 0 and no register is written (a choice of this project)
 abbrev pub divided : Regs → Reg → ℕ → Regs
 divided g r b = if b == 0 then flags g false false true true else with_quotient g r (pair g r) b
-
-abbrev pub one_left : ℕ → ℕ → Shift → Shift
-one_left l h s =
-    let x = (2 * s.value) % l in
-    record { value = x; carry = nat_le h s.value; turned = s.turned || differ (nat_le h x) (nat_le h s.value) }
-
-abbrev pub one_right : ℕ → Shift → Shift
-one_right h s = record { value = s.value / 2 + (if nat_le h s.value then h else 0); carry = s.value % 2 == 1; turned = s.turned }
-
-abbrev pub lefts : ℕ → ℕ → ℕ → Shift → Shift
-lefts zero l h s = s
-lefts (suc n) l h s = one_left l h (lefts n l h s)
-
-abbrev pub rights : ℕ → ℕ → Shift → Shift
-rights zero h s = s
-rights (suc n) h s = one_right h (rights n h s)
-
--- before the first shift
-abbrev pub unshifted : ℕ → Shift
-unshifted x = record { value = x; carry = false; turned = false }
-
--- by the low six bits of a word: to the left below 32, else to the right
-abbrev pub shifted : ℕ → ℕ → ℕ → ℕ → Shift
-shifted l h x n =
-    if nat_lt (n % 64) 32 then lefts (n % 64) l h (unshifted x) else rights (64 - n % 64) h (unshifted x)
 
 abbrev pub shift_word : Regs → Reg → Shift → Regs
 shift_word g r s = with_reg (by_value g Word s.value s.turned s.carry) r s.value

@@ -1,5 +1,5 @@
 -- Where an operand is, as the code has it.
-use Rattle.std.specs.Prelude.{ℕ, ◌%◌, Result, Ok, Err}
+use Rattle.std.specs.Prelude.{◌%◌, Result, Ok, Err}
 use Rattle.pdp_code.specs.First.{reg_of}
 use Rattle.pdp_core.specs.declared.cpu.Regs.{Regs}
 use Rattle.pdp_core.specs.declared.cpu.Failure.{Failure}

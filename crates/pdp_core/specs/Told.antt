@@ -15,6 +15,11 @@ stopped Went g w = goes_on w g
 stopped (Service n) g w = Ok (record { stop = Service n; regs = g; world = w })
 stopped (Fault kind at) g w = Err (failure kind at)
 
+-- what stopped an instruction: nothing, where it went on
+abbrev pub stop_of : Done → Stop → Stop
+stop_of Finished stop = Went
+stop_of Stopped stop = stop
+
 abbrev pub told : Done → Stop → Regs → World → Result Outcome Failure
 told Finished stop g w = goes_on w g
 told Stopped stop g w = stopped stop g w

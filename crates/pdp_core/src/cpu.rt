@@ -54,14 +54,6 @@ pub enum Done {
     Stopped,
 }
 
-/// A value that is shifted bit by bit, the last bit that went out, and whether its sign ever changed.
-#[derive(Clone, Copy)]
-pub struct Shift {
-    pub value: u32,
-    pub carry: bool,
-    pub turned: bool,
-}
-
 /// Where an operand is.
 #[derive(Clone, Copy)]
 pub enum Place {

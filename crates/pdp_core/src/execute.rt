@@ -1,32 +1,49 @@
 // The instructions.
-ghost use Rattle.std.specs.Prelude.{◌≡◌, ◌+◌, ◌-◌, ◌*◌, ◌%◌, ◌<◌, ◌^◌, OnErr, bit_or, false};
+ghost use Rattle.std.specs.Prelude.{◌≡◌, ◌+◌, ◌-◌, ◌*◌, ◌/◌, ◌%◌, ◌<◌, ◌^◌, OnErr, bit_or, false};
 ghost use Rattle.pdp_code.specs.First.{operand_of};
 ghost use Rattle.pdp_code.specs.declared.instruction.Instr.{Instr};
-ghost use Rattle.pdp_core.specs.Accesses.{store_made, update_made, double_made, single_end_made, single_read_made, single_made, word_made, register_made, push_made, pop_made, perform_made, execute_made};
+ghost use Rattle.pdp_core.specs.Accesses.{store_made, update_made, double_made, single_end_made, single_read_made, single_made, at_place, after, word_made, register_made, push_made, pop_made, perform_made, execute_made};
 ghost use Rattle.pdp_core.specs.Spots.{place_of};
-ghost use Rattle.pdp_core.specs.Execute.{failure, limit, move as move_of, double, sum, single, single_read, single_end, on_word as on_word_of, on_register, is_odd_pair, left, holds, branch, loop, target, call, return_by, double_step, sum_step, single_step, word_step, register_step, jump_step, call_step, perform as perform_of, plan, trap, execute};
-ghost use Rattle.pdp_core.specs.Told.{told};
+ghost use Rattle.pdp_code.specs.declared.instruction.Reg.TheVariants.{Pc};
+ghost use Rattle.pdp_values.specs.Values.{limit, single_value};
+ghost use Rattle.pdp_core.specs.Execute.{failure, address, and_then, store, move as move_of, double, sum, single, single_read, single_end, single_flags, on_word as on_word_of, on_register, is_odd_pair, left, holds, branch, loop, target, call, return_by, double_step, sum_step, single_step, word_step, register_step, jump_step, call_step, perform as perform_of, plan, trap, execute, reg, with_reg};
+ghost use Rattle.pdp_core.specs.Told.{told, stop_of};
 
 use crate::cpu::{Done, Failure, Kind, Regs, Spot, Stop};
+use crate::flags::{mark, set_by_change, set_by_difference, set_by_sum, set_by_value, set_flags};
 use crate::groups::carry_out;
 use crate::memory::Bus;
 use crate::operand::{
-    find, get, index, load_at, next, set, set_at, store_at, store_word, value, word_at, write_word,
+    find, get, get_at, index, load_at, next, set, set_at, store_at, store_word, undo, value,
+    word_at, write_word,
 };
-use crate::operations::{OnOne, OnSum, OnTwo, Width};
-use crate::shift::{divide, get_pair, product, set_product, set_shifted, set_shifted_pair, shift};
-use crate::value::{
-    add, change, clear_bits, differ_of, extend, limit_of, mark, set_by_difference, set_by_sum,
-    set_by_value, set_flags, subtract,
-};
+use crate::pairs::{divide, get_pair, set_product, set_shifted, set_shifted_pair};
 use pdp_code::{Condition, DoubleOp, Reg, RegisterOp, SingleOp, Size, SumOp, WordOp};
+use pdp_values::{
+    OnOne, OnSum, OnTwo, Width, add, changed, clear_bits, differ_of, extend, limit_of, product,
+    shift, subtract,
+};
 use rt_words::{wrap_add, wrap_sub};
+
+// What an operand's address changed is given back where what follows fails.
+macro_rules! or_undo {
+    ($answer:expr, $regs:ident, $operand:expr, $kept:expr, $at:expr) => {
+        match $answer {
+            Ok(()) => Ok(()),
+            Err(failure) => {
+                undo($regs, $operand, $kept, $at);
+                Err(failure)
+            }
+        }
+    };
+}
 
 #[inline(always)]
 fn move_to<B: Bus>(bus: &mut B, regs: &mut Regs, size: Size, x: u16, d: Spot) -> Result<(), Failure>
     requires { x < limit size }
     ensures value { move_of (B.world bus.old) regs.old size x (place_of d) ≡ left result regs.new (B.world bus.new) }
     ensures err { OnErr result (B.world bus.new ≡ B.world bus.old) }
+    ensures kept { OnErr result (regs.new ≡ regs.old) }
     ensures made { B.accesses bus.new ≡ store_made size (place_of d) (B.accesses bus.old) }
 {
     match size {
@@ -42,46 +59,48 @@ fn move_to<B: Bus>(bus: &mut B, regs: &mut Regs, size: Size, x: u16, d: Spot) ->
 }
 
 #[inline(always)]
-fn two<B: Bus>(
+fn two<O: OnTwo, Z: Width, B: Bus>(
     bus: &mut B,
     regs: &mut Regs,
-    op: DoubleOp,
-    size: Size,
     x: u16,
     d: Spot,
 ) -> Result<(), Failure>
-    requires { x < limit size }
-    ensures value { double (B.world bus.old) regs.old op size x (place_of d) ≡ left result regs.new (B.world bus.new) }
+    requires { x < limit Z.SIZE }
+    ensures value { double (B.world bus.old) regs.old O.OP Z.SIZE x (place_of d) ≡ left result regs.new (B.world bus.new) }
     ensures err { OnErr result (B.world bus.new ≡ B.world bus.old) }
-    ensures made { B.accesses bus.new ≡ double_made (B.world bus.old) regs.old op size (place_of d) (B.accesses bus.old) }
+    ensures kept { OnErr result (regs.new ≡ regs.old) }
+    ensures made { B.accesses bus.new ≡ double_made (B.world bus.old) regs.old O.OP Z.SIZE (place_of d) (B.accesses bus.old) }
 {
     let c = regs.c;
-    match op {
+    match O::OP {
         DoubleOp::Mov => {
-            set_by_value(regs, size, x, false, c);
-            move_to(bus, regs, size, x, d)
+            move_to(bus, regs, Z::SIZE, x, d)?;
+            set_by_value(regs, Z::SIZE, x, false, c);
+            Ok(())
         }
         DoubleOp::Cmp => {
-            let y = load_at(bus, size, regs, d)?;
-            set_by_difference(regs, size, x, y);
+            let y = load_at(bus, Z::SIZE, regs, d)?;
+            set_by_difference(regs, Z::SIZE, x, y);
             Ok(())
         }
         DoubleOp::Bit => {
-            let y = load_at(bus, size, regs, d)?;
-            set_by_value(regs, size, y & x, false, c);
+            let y = load_at(bus, Z::SIZE, regs, d)?;
+            set_by_value(regs, Z::SIZE, y & x, false, c);
             Ok(())
         }
         DoubleOp::Bic => {
-            let y = load_at(bus, size, regs, d)?;
+            let y = load_at(bus, Z::SIZE, regs, d)?;
             let z = clear_bits(y, x);
-            set_by_value(regs, size, z, false, c);
-            store_at(bus, size, regs, d, z)
+            store_at(bus, Z::SIZE, regs, d, z)?;
+            set_by_value(regs, Z::SIZE, z, false, c);
+            Ok(())
         }
         DoubleOp::Bis => {
-            let y = load_at(bus, size, regs, d)?;
-            let z = join(size, y, x);
-            set_by_value(regs, size, z, false, c);
-            store_at(bus, size, regs, d, z)
+            let y = load_at(bus, Z::SIZE, regs, d)?;
+            let z = join(Z::SIZE, y, x);
+            store_at(bus, Z::SIZE, regs, d, z)?;
+            set_by_value(regs, Z::SIZE, z, false, c);
+            Ok(())
         }
     }
 }
@@ -101,22 +120,48 @@ fn join(size: Size, y: u16, x: u16) -> u16
 }
 
 #[inline(always)]
-fn total<B: Bus>(bus: &mut B, regs: &mut Regs, op: SumOp, x: u16, d: Spot) -> Result<(), Failure>
-    ensures value { sum (B.world bus.old) regs.old op x (place_of d) ≡ left result regs.new (B.world bus.new) }
+fn total<O: OnSum, B: Bus>(bus: &mut B, regs: &mut Regs, x: u16, d: Spot) -> Result<(), Failure>
+    ensures value { sum (B.world bus.old) regs.old O.OP x (place_of d) ≡ left result regs.new (B.world bus.new) }
     ensures err { OnErr result (B.world bus.new ≡ B.world bus.old) }
+    ensures kept { OnErr result (regs.new ≡ regs.old) }
     ensures made { B.accesses bus.new ≡ update_made (B.world bus.old) Size.Word regs.old (place_of d) (B.accesses bus.old) }
 {
     let y = load_at(bus, Size::Word, regs, d)?;
-    match op {
+    match O::OP {
         SumOp::Add => {
+            store_word(bus, regs, d, add(Size::Word, y, x))?;
             set_by_sum(regs, y, x);
-            store_word(bus, regs, d, add(Size::Word, y, x))
+            Ok(())
         }
         SumOp::Sub => {
+            store_word(bus, regs, d, subtract(Size::Word, y, x))?;
             set_by_difference(regs, Size::Word, y, x);
-            store_word(bus, regs, d, subtract(Size::Word, y, x))
+            Ok(())
         }
     }
+}
+
+/// Puts what an operation makes of `y` at a place, and sets its flags.
+#[inline(always)]
+fn put_change<B: Bus>(
+    bus: &mut B,
+    regs: &mut Regs,
+    op: SingleOp,
+    size: Size,
+    y: u16,
+    d: Spot,
+) -> Result<(), Failure>
+    requires { y < limit size }
+    ensures value { store (B.world bus.old) size (single_flags regs.old op size y) (place_of d) (single_value op size regs.old.c y) ≡ left result regs.new (B.world bus.new) }
+    ensures err { OnErr result (B.world bus.new ≡ B.world bus.old) }
+    ensures kept { OnErr result (regs.new ≡ regs.old) }
+    ensures made { B.accesses bus.new ≡ store_made size (place_of d) (B.accesses bus.old) }
+{
+    let c = regs.c;
+    let x = changed(op, size, c, y);
+    store_at(bus, size, regs, d, x)?;
+    set_by_change(regs, op, size, c, y, x);
+    Ok(())
 }
 
 #[inline(always)]
@@ -125,17 +170,22 @@ fn finish_one<B: Bus>(
     regs: &mut Regs,
     op: SingleOp,
     size: Size,
-    x: u16,
+    y: u16,
     d: Spot,
 ) -> Result<(), Failure>
-    requires { x < limit size }
-    ensures value { single_end (B.world bus.old) regs.old op size x (place_of d) ≡ left result regs.new (B.world bus.new) }
+    requires { y < limit size }
+    ensures value { single_end (B.world bus.old) (single_flags regs.old op size y) op size (single_value op size regs.old.c y) (place_of d) ≡ left result regs.new (B.world bus.new) }
     ensures err { OnErr result (B.world bus.new ≡ B.world bus.old) }
+    ensures kept { OnErr result (regs.new ≡ regs.old) }
     ensures made { B.accesses bus.new ≡ single_end_made op size (place_of d) (B.accesses bus.old) }
 {
     match op {
-        SingleOp::Tst => Ok(()),
-        _ => store_at(bus, size, regs, d, x),
+        SingleOp::Tst => {
+            let c = regs.c;
+            set_by_change(regs, op, size, c, y, y);
+            Ok(())
+        }
+        _ => put_change(bus, regs, op, size, y, d),
     }
 }
 
@@ -149,22 +199,24 @@ fn read_one<B: Bus>(
 ) -> Result<(), Failure>
     ensures value { single_read (B.world bus.old) regs.old op size (place_of d) ≡ left result regs.new (B.world bus.new) }
     ensures err { OnErr result (B.world bus.new ≡ B.world bus.old) }
+    ensures kept { OnErr result (regs.new ≡ regs.old) }
     ensures made { B.accesses bus.new ≡ single_read_made (B.world bus.old) regs.old op size (place_of d) (B.accesses bus.old) }
 {
     let y = load_at(bus, size, regs, d)?;
-    let x = change(regs, op, size, y);
-    finish_one(bus, regs, op, size, x, d)
+    finish_one(bus, regs, op, size, y, d)
 }
 
 #[inline(always)]
 fn clear<B: Bus>(bus: &mut B, regs: &mut Regs, size: Size, d: Spot) -> Result<(), Failure>
     ensures value { single (B.world bus.old) regs.old SingleOp.Clr size (place_of d) ≡ left result regs.new (B.world bus.new) }
     ensures err { OnErr result (B.world bus.new ≡ B.world bus.old) }
+    ensures kept { OnErr result (regs.new ≡ regs.old) }
     ensures made { B.accesses bus.new ≡ store_made size (place_of d) (B.accesses bus.old) }
 {
     prove!(limit_of(size) > 0);
+    store_at(bus, size, regs, d, 0)?;
     set_flags(regs, false, true, false, false);
-    store_at(bus, size, regs, d, 0)
+    Ok(())
 }
 
 #[inline(always)]
@@ -177,6 +229,7 @@ fn one<B: Bus>(
 ) -> Result<(), Failure>
     ensures value { single (B.world bus.old) regs.old op size (place_of d) ≡ left result regs.new (B.world bus.new) }
     ensures err { OnErr result (B.world bus.new ≡ B.world bus.old) }
+    ensures kept { OnErr result (regs.new ≡ regs.old) }
     ensures made { B.accesses bus.new ≡ single_made (B.world bus.old) regs.old op size (place_of d) (B.accesses bus.old) }
 {
     match op {
@@ -189,20 +242,23 @@ fn one<B: Bus>(
 fn on_word<B: Bus>(bus: &mut B, regs: &mut Regs, op: WordOp, d: Spot) -> Result<(), Failure>
     ensures value { on_word_of (B.world bus.old) regs.old op (place_of d) ≡ left result regs.new (B.world bus.new) }
     ensures err { OnErr result (B.world bus.new ≡ B.world bus.old) }
+    ensures kept { OnErr result (regs.new ≡ regs.old) }
     ensures made { B.accesses bus.new ≡ word_made (B.world bus.old) regs.old op (place_of d) (B.accesses bus.old) }
 {
     match op {
         WordOp::Swab => {
             let y = load_at(bus, Size::Word, regs, d)?;
             let x = y % 256 * 256 + y / 256;
+            store_word(bus, regs, d, x)?;
             set_by_value(regs, Size::Byte, x % 256, false, false);
-            store_word(bus, regs, d, x)
+            Ok(())
         }
         WordOp::Sxt => {
             let n = regs.n;
             let c = regs.c;
+            store_word(bus, regs, d, if n { 65535 } else { 0 })?;
             set_flags(regs, n, !n, false, c);
-            store_word(bus, regs, d, if n { 65535 } else { 0 })
+            Ok(())
         }
     }
 }
@@ -230,6 +286,7 @@ fn with_register<B: Bus>(
     requires { is_odd_pair op r ≡ false }
     ensures value { on_register (B.world bus.old) regs.old before op r (place_of s) ≡ left result regs.new (B.world bus.new) }
     ensures err { OnErr result (B.world bus.new ≡ B.world bus.old) }
+    ensures kept { OnErr result (regs.new ≡ regs.old) }
     ensures made { B.accesses bus.new ≡ register_made (B.world bus.old) regs.old op (place_of s) (B.accesses bus.old) }
 {
     let x = load_at(bus, Size::Word, regs, s)?;
@@ -256,8 +313,9 @@ fn with_register<B: Bus>(
         RegisterOp::Xor => {
             let y = x ^ before;
             let c = regs.c;
+            store_word(bus, regs, s, y)?;
             set_by_value(regs, Size::Word, y, false, c);
-            store_word(bus, regs, s, y)
+            Ok(())
         }
     }
 }
@@ -321,8 +379,7 @@ fn address_of(at: u16, place: Spot) -> Result<u16, Failure>
 {
     match place {
         Spot::Register(_) => Err(failed(Kind::BadJump, at)),
-        Spot::Memory(a) => Ok(a),
-        Spot::Code(a, _) => Ok(a),
+        Spot::Memory(a) | Spot::Code(a, _) => Ok(a),
     }
 }
 
@@ -330,21 +387,41 @@ fn address_of(at: u16, place: Spot) -> Result<u16, Failure>
 fn enter<B: Bus>(bus: &mut B, regs: &mut Regs, r: Reg, a: u16) -> Result<(), Failure>
     ensures value { call (B.world bus.old) regs.old r a ≡ left result regs.new (B.world bus.new) }
     ensures err { OnErr result (B.world bus.new ≡ B.world bus.old) }
+    ensures kept { OnErr result (regs.new ≡ regs.old) }
     ensures made { B.accesses bus.new ≡ push_made regs.old (B.accesses bus.old) }
 {
     let kept = get(regs, r);
     let back = get(regs, Reg::Pc);
     let s = wrap_sub(get(regs, Reg::Sp), 2);
+    write_word(bus, regs, s, kept)?;
     set(regs, Reg::Sp, s);
     set(regs, r, back);
     set(regs, Reg::Pc, a);
-    write_word(bus, regs, s, kept)
+    Ok(())
+}
+
+#[inline(always)]
+fn enter_at<B: Bus>(
+    bus: &mut B,
+    regs: &mut Regs,
+    at: u16,
+    r: Reg,
+    place: Spot,
+) -> Result<(), Failure>
+    ensures value { and_then (target at (place_of place)) (λ a. call (B.world bus.old) regs.old r a) ≡ left result regs.new (B.world bus.new) }
+    ensures err { OnErr result (B.world bus.new ≡ B.world bus.old) }
+    ensures kept { OnErr result (regs.new ≡ regs.old) }
+    ensures made { B.accesses bus.new ≡ after (target at (place_of place)) (λ a. push_made regs.old) (B.accesses bus.old) }
+{
+    let to = address_of(at, place)?;
+    enter(bus, regs, r, to)
 }
 
 #[inline(always)]
 pub fn leave<B: Bus>(bus: &mut B, regs: &mut Regs, r: Reg) -> Result<(), Failure>
     ensures value { return_by (B.world bus.old) regs.old r ≡ left result regs.new (B.world bus.new) }
     ensures err { OnErr result (B.world bus.new ≡ B.world bus.old) }
+    ensures kept { OnErr result (regs.new ≡ regs.old) }
     ensures made { B.accesses bus.new ≡ pop_made regs.old (B.accesses bus.old) }
 {
     let s = get(regs, Reg::Sp);
@@ -379,6 +456,30 @@ pub fn ask<B: Bus>(bus: &B, regs: &Regs, at: u16, n: u8, stop: &mut Stop) -> Don
     }
 }
 
+/// A source's value and a destination, of words or bytes.
+#[tactic(auto, using(crate::proofs::Undoing::found_given_back))]
+#[inline(always)]
+fn two_to<O: OnTwo, Z: Width, B: Bus>(
+    bus: &mut B,
+    regs: &mut Regs,
+    x: u16,
+    d: u16,
+) -> Result<(), Failure>
+    requires { x < limit Z.SIZE }
+    ensures value { and_then (address (B.world bus.old) Z.SIZE regs.old (operand_of d)) (λ p. double (B.world bus.old) p.1 O.OP Z.SIZE x p.0) ≡ left result regs.new (B.world bus.new) }
+    ensures err { OnErr result (B.world bus.new ≡ B.world bus.old) }
+    ensures kept { OnErr result (regs.new ≡ regs.old) }
+    ensures made { B.accesses bus.new ≡ at_place (B.world bus.old) Z.SIZE regs.old (operand_of d) (λ h. double_made (B.world bus.old) h O.OP Z.SIZE) (B.accesses bus.old) }
+{
+    if d / 0o10 == 0 {
+        return two::<O, Z, B>(bus, regs, x, Spot::Register(d));
+    }
+    let kept = get_at(regs, d);
+    let at = get(regs, Reg::Pc);
+    let place = find(bus, Z::SIZE, regs, d)?;
+    or_undo!(two::<O, Z, B>(bus, regs, x, place), regs, d, kept, at)
+}
+
 /// A source and a destination, of words or bytes.
 #[inline(always)]
 pub fn do_double<O: OnTwo, Z: Width, B: Bus>(
@@ -389,14 +490,50 @@ pub fn do_double<O: OnTwo, Z: Width, B: Bus>(
 ) -> Result<(), Failure>
     ensures value { double_step (B.world bus.old) regs.old O.OP Z.SIZE (operand_of s) (operand_of d) ≡ left result regs.new (B.world bus.new) }
     ensures err { OnErr result (B.world bus.new ≡ B.world bus.old) }
+    ensures kept { OnErr result (regs.new ≡ regs.old) }
     ensures made { B.accesses bus.new ≡ perform_made 0 (B.world bus.old) regs.old (Instr.Double O.OP Z.SIZE (operand_of s) (operand_of d)) (B.accesses bus.old) }
 {
+    let kept = get_at(regs, s);
+    let at = get(regs, Reg::Pc);
     let x = value(bus, Z::SIZE, regs, s)?;
+    or_undo!(two_to::<O, Z, B>(bus, regs, x, d), regs, s, kept, at)
+}
+
+/// A source's value and a destination, of words alone.
+#[tactic(auto, using(crate::proofs::Undoing::found_given_back))]
+#[inline(always)]
+fn total_to<O: OnSum, B: Bus>(bus: &mut B, regs: &mut Regs, x: u16, d: u16) -> Result<(), Failure>
+    ensures value { and_then (address (B.world bus.old) Size.Word regs.old (operand_of d)) (λ p. sum (B.world bus.old) p.1 O.OP x p.0) ≡ left result regs.new (B.world bus.new) }
+    ensures err { OnErr result (B.world bus.new ≡ B.world bus.old) }
+    ensures kept { OnErr result (regs.new ≡ regs.old) }
+    ensures made { B.accesses bus.new ≡ at_place (B.world bus.old) Size.Word regs.old (operand_of d) (λ h. update_made (B.world bus.old) Size.Word h) (B.accesses bus.old) }
+{
     if d / 0o10 == 0 {
-        return two(bus, regs, O::OP, Z::SIZE, x, Spot::Register(d));
+        return total::<O, B>(bus, regs, x, Spot::Register(d));
     }
-    let place = find(bus, Z::SIZE, regs, d)?;
-    two(bus, regs, O::OP, Z::SIZE, x, place)
+    let kept = get_at(regs, d);
+    let at = get(regs, Reg::Pc);
+    let place = find(bus, Size::Word, regs, d)?;
+    or_undo!(total::<O, B>(bus, regs, x, place), regs, d, kept, at)
+}
+
+/// The same of two registers.
+#[inline(always)]
+pub fn do_double_in_registers<O: OnTwo, Z: Width, B: Bus>(
+    bus: &mut B,
+    regs: &mut Regs,
+    s: u16,
+    d: u16,
+) -> Result<(), Failure>
+    requires source { s / 8 ≡ 0 }
+    requires target { d / 8 ≡ 0 }
+    ensures value { double_step (B.world bus.old) regs.old O.OP Z.SIZE (operand_of s) (operand_of d) ≡ left result regs.new (B.world bus.new) }
+    ensures err { OnErr result (B.world bus.new ≡ B.world bus.old) }
+    ensures kept { OnErr result (regs.new ≡ regs.old) }
+    ensures made { B.accesses bus.new ≡ perform_made 0 (B.world bus.old) regs.old (Instr.Double O.OP Z.SIZE (operand_of s) (operand_of d)) (B.accesses bus.old) }
+{
+    let x = load_at(bus, Z::SIZE, regs, Spot::Register(s))?;
+    two::<O, Z, B>(bus, regs, x, Spot::Register(d))
 }
 
 /// A source and a destination, of words alone.
@@ -404,17 +541,36 @@ pub fn do_double<O: OnTwo, Z: Width, B: Bus>(
 pub fn do_sum<O: OnSum, B: Bus>(bus: &mut B, regs: &mut Regs, s: u16, d: u16) -> Result<(), Failure>
     ensures value { sum_step (B.world bus.old) regs.old O.OP (operand_of s) (operand_of d) ≡ left result regs.new (B.world bus.new) }
     ensures err { OnErr result (B.world bus.new ≡ B.world bus.old) }
+    ensures kept { OnErr result (regs.new ≡ regs.old) }
     ensures made { B.accesses bus.new ≡ perform_made 0 (B.world bus.old) regs.old (Instr.Sum O.OP (operand_of s) (operand_of d)) (B.accesses bus.old) }
 {
+    let kept = get_at(regs, s);
+    let at = get(regs, Reg::Pc);
     let x = value(bus, Size::Word, regs, s)?;
-    if d / 0o10 == 0 {
-        return total(bus, regs, O::OP, x, Spot::Register(d));
-    }
-    let place = find(bus, Size::Word, regs, d)?;
-    total(bus, regs, O::OP, x, place)
+    or_undo!(total_to::<O, B>(bus, regs, x, d), regs, s, kept, at)
+}
+
+/// The same of two registers.
+#[inline(always)]
+pub fn do_sum_in_registers<O: OnSum, B: Bus>(
+    bus: &mut B,
+    regs: &mut Regs,
+    s: u16,
+    d: u16,
+) -> Result<(), Failure>
+    requires source { s / 8 ≡ 0 }
+    requires target { d / 8 ≡ 0 }
+    ensures value { sum_step (B.world bus.old) regs.old O.OP (operand_of s) (operand_of d) ≡ left result regs.new (B.world bus.new) }
+    ensures err { OnErr result (B.world bus.new ≡ B.world bus.old) }
+    ensures kept { OnErr result (regs.new ≡ regs.old) }
+    ensures made { B.accesses bus.new ≡ perform_made 0 (B.world bus.old) regs.old (Instr.Sum O.OP (operand_of s) (operand_of d)) (B.accesses bus.old) }
+{
+    let x = load_at(bus, Size::Word, regs, Spot::Register(s))?;
+    total::<O, B>(bus, regs, x, Spot::Register(d))
 }
 
 /// One operand, of words or bytes.
+#[tactic(auto, using(crate::proofs::Undoing::found_given_back))]
 #[inline(always)]
 pub fn do_single<O: OnOne, Z: Width, B: Bus>(
     bus: &mut B,
@@ -423,27 +579,48 @@ pub fn do_single<O: OnOne, Z: Width, B: Bus>(
 ) -> Result<(), Failure>
     ensures value { single_step (B.world bus.old) regs.old O.OP Z.SIZE (operand_of d) ≡ left result regs.new (B.world bus.new) }
     ensures err { OnErr result (B.world bus.new ≡ B.world bus.old) }
+    ensures kept { OnErr result (regs.new ≡ regs.old) }
     ensures made { B.accesses bus.new ≡ perform_made 0 (B.world bus.old) regs.old (Instr.Single O.OP Z.SIZE (operand_of d)) (B.accesses bus.old) }
 {
-    if d / 0o10 == 0 {
-        return one(bus, regs, O::OP, Z::SIZE, Spot::Register(d));
-    }
+    let kept = get_at(regs, d);
+    let at = get(regs, Reg::Pc);
     let place = find(bus, Z::SIZE, regs, d)?;
-    one(bus, regs, O::OP, Z::SIZE, place)
+    or_undo!(one(bus, regs, O::OP, Z::SIZE, place), regs, d, kept, at)
+}
+
+/// The same of a register.
+#[inline(always)]
+pub fn do_single_in_register<O: OnOne, Z: Width, B: Bus>(
+    bus: &mut B,
+    regs: &mut Regs,
+    d: u16,
+) -> Result<(), Failure>
+    requires { d / 8 ≡ 0 }
+    ensures value { single_step (B.world bus.old) regs.old O.OP Z.SIZE (operand_of d) ≡ left result regs.new (B.world bus.new) }
+    ensures err { OnErr result (B.world bus.new ≡ B.world bus.old) }
+    ensures kept { OnErr result (regs.new ≡ regs.old) }
+    ensures made { B.accesses bus.new ≡ perform_made 0 (B.world bus.old) regs.old (Instr.Single O.OP Z.SIZE (operand_of d)) (B.accesses bus.old) }
+{
+    one(bus, regs, O::OP, Z::SIZE, Spot::Register(d))
 }
 
 /// One operand, of words alone.
+#[tactic(auto, using(crate::proofs::Undoing::found_given_back))]
 #[inline(always)]
 pub fn do_word<B: Bus>(bus: &mut B, regs: &mut Regs, op: WordOp, d: u16) -> Result<(), Failure>
     ensures value { word_step (B.world bus.old) regs.old op (operand_of d) ≡ left result regs.new (B.world bus.new) }
     ensures err { OnErr result (B.world bus.new ≡ B.world bus.old) }
+    ensures kept { OnErr result (regs.new ≡ regs.old) }
     ensures made { B.accesses bus.new ≡ perform_made 0 (B.world bus.old) regs.old (Instr.OnWord op (operand_of d)) (B.accesses bus.old) }
 {
+    let kept = get_at(regs, d);
+    let at = get(regs, Reg::Pc);
     let place = find(bus, Size::Word, regs, d)?;
-    on_word(bus, regs, op, place)
+    or_undo!(on_word(bus, regs, op, place), regs, d, kept, at)
 }
 
 /// A register and an operand.
+#[tactic(auto, using(crate::proofs::Undoing::found_given_back))]
 #[inline(always)]
 pub fn do_register<B: Bus>(
     bus: &mut B,
@@ -455,45 +632,69 @@ pub fn do_register<B: Bus>(
 ) -> Result<(), Failure>
     ensures value { register_step at (B.world bus.old) regs.old op r (operand_of s) ≡ left result regs.new (B.world bus.new) }
     ensures err { OnErr result (B.world bus.new ≡ B.world bus.old) }
+    ensures kept { OnErr result (regs.new ≡ regs.old) }
     ensures made { B.accesses bus.new ≡ perform_made at (B.world bus.old) regs.old (Instr.OnRegister op r (operand_of s)) (B.accesses bus.old) }
 {
     if has_odd_pair(op, r) {
         return Err(failed(Kind::Reserved, at));
     }
     let before = get(regs, r);
+    let kept = get_at(regs, s);
+    let next = get(regs, Reg::Pc);
     let place = find(bus, Size::Word, regs, s)?;
-    with_register(bus, regs, op, r, before, place)
+    or_undo!(
+        with_register(bus, regs, op, r, before, place),
+        regs,
+        s,
+        kept,
+        next
+    )
 }
 
 /// A jump.
+#[tactic(auto, using(crate::proofs::Undoing::found_given_back))]
 #[inline(always)]
 pub fn do_jump<B: Bus>(bus: &mut B, regs: &mut Regs, at: u16, d: u16) -> Result<(), Failure>
     ensures value { jump_step at (B.world bus.old) regs.old (operand_of d) ≡ left result regs.new (B.world bus.new) }
     ensures err { OnErr result (B.world bus.new ≡ B.world bus.old) }
+    ensures kept { OnErr result (regs.new ≡ regs.old) }
     ensures made { B.accesses bus.new ≡ perform_made at (B.world bus.old) regs.old (Instr.Jump (operand_of d)) (B.accesses bus.old) }
 {
+    let kept = get_at(regs, d);
+    let next = get(regs, Reg::Pc);
     let place = find(bus, Size::Word, regs, d)?;
-    let to = address_of(at, place)?;
-    set(regs, Reg::Pc, to);
-    Ok(())
+    match address_of(at, place) {
+        Ok(to) => {
+            set(regs, Reg::Pc, to);
+            Ok(())
+        }
+        Err(failure) => {
+            undo(regs, d, kept, next);
+            Err(failure)
+        }
+    }
 }
 
 /// A call of a subroutine.
+#[tactic(auto, using(crate::proofs::Undoing::found_given_back))]
 #[inline(always)]
 pub fn do_call<B: Bus>(bus: &mut B, regs: &mut Regs, at: u16, r: Reg, d: u16) -> Result<(), Failure>
     ensures value { call_step at (B.world bus.old) regs.old r (operand_of d) ≡ left result regs.new (B.world bus.new) }
     ensures err { OnErr result (B.world bus.new ≡ B.world bus.old) }
+    ensures kept { OnErr result (regs.new ≡ regs.old) }
     ensures made { B.accesses bus.new ≡ perform_made at (B.world bus.old) regs.old (Instr.Call r (operand_of d)) (B.accesses bus.old) }
 {
+    let kept = get_at(regs, d);
+    let next = get(regs, Reg::Pc);
     let place = find(bus, Size::Word, regs, d)?;
-    let to = address_of(at, place)?;
-    enter(bus, regs, r, to)
+    or_undo!(enter_at(bus, regs, at, r, place), regs, d, kept, next)
 }
 
 #[inline(always)]
 fn attempt<B: Bus>(bus: &mut B, regs: &mut Regs, stop: &mut Stop) -> Done
     ensures value { plan (B.world bus.old) regs.old ≡ told result stop.new regs.new (B.world bus.new) }
     ensures err { result ≡ Done.Stopped → B.world bus.new ≡ B.world bus.old }
+    ensures kept { result ≡ Done.Stopped → with_reg regs.new Pc (reg regs.old Pc) ≡ regs.old }
     ensures made { B.accesses bus.new ≡ execute_made (B.world bus.old) regs.old (B.accesses bus.old) }
 {
     let at = get(regs, Reg::Pc);
@@ -504,23 +705,35 @@ fn attempt<B: Bus>(bus: &mut B, regs: &mut Regs, stop: &mut Stop) -> Done
 }
 
 /// One instruction: registers, flags and memory are changed as the instruction table says, or, on a fault, not at all. It
-/// takes no memory of the host.
+/// takes no memory of the host. What stopped it is told in a place that is lent, which is left as it was where it went on.
+#[inline(always)]
+pub fn carry_on<B: Bus>(regs: &mut Regs, bus: &mut B, stop: &mut Stop) -> Done
+    ensures done { execute (B.world bus.old) regs.old ≡ record { stop = stop_of result stop.new; regs = regs.new; world = B.world bus.new } }
+    ensures made { B.accesses bus.new ≡ execute_made (B.world bus.old) regs.old (B.accesses bus.old) }
+{
+    let at = get(regs, Reg::Pc);
+    match attempt(bus, regs, stop) {
+        Done::Went => Done::Went,
+        Done::Stopped => match *stop {
+            Stop::Fault(_, _) => {
+                set(regs, Reg::Pc, at);
+                Done::Stopped
+            }
+            Stop::Trap(_) => Done::Stopped,
+            Stop::Went => Done::Stopped,
+        },
+    }
+}
+
+/// The same, with its stop as the answer.
 #[inline(always)]
 pub fn step<B: Bus>(regs: &mut Regs, bus: &mut B) -> Stop
     ensures done { execute (B.world bus.old) regs.old ≡ record { stop = result; regs = regs.new; world = B.world bus.new } }
     ensures made { B.accesses bus.new ≡ execute_made (B.world bus.old) regs.old (B.accesses bus.old) }
 {
-    let before = *regs;
     let mut stop = Stop::Went;
-    match attempt(bus, regs, &mut stop) {
+    match carry_on(regs, bus, &mut stop) {
         Done::Went => Stop::Went,
-        Done::Stopped => match stop {
-            Stop::Fault(kind, at) => {
-                *regs = before;
-                Stop::Fault(kind, at)
-            }
-            Stop::Trap(n) => Stop::Trap(n),
-            Stop::Went => Stop::Went,
-        },
+        Done::Stopped => stop,
     }
 }

@@ -10,18 +10,19 @@ ghost use Rattle.pdp_core.specs.Groups.{from_registers, from_words, from_singles
 
 use crate::cpu::{Done, Kind, Regs, Stop};
 use crate::execute::{
-    ask, count_down, do_call, do_double, do_jump, do_register, do_single, do_sum, do_word, failed,
-    leave, stop_by, take_branch,
+    ask, count_down, do_call, do_double, do_double_in_registers, do_jump, do_register, do_single,
+    do_single_in_register, do_sum, do_sum_in_registers, do_word, failed, leave, stop_by,
+    take_branch,
 };
+use crate::flags::mark;
 use crate::memory::Bus;
-use crate::operations::{
-    Adc, Add, Asl, Asr, Bic, Bis, Bit, Bytes, Clr, Cmp, Com, Dec, Inc, Mov, Neg, OnOne, OnSum,
-    OnTwo, Rol, Ror, Sbc, Sub, Tst, Width, Words,
-};
-use crate::value::mark;
 use pdp_code::first::register;
 use pdp_code::laws::first_words;
 use pdp_code::{Condition, RegisterOp, WordOp};
+use pdp_values::operations::{
+    Adc, Add, Asl, Asr, Bic, Bis, Bit, Bytes, Clr, Cmp, Com, Dec, Inc, Mov, Neg, OnOne, OnSum,
+    OnTwo, Rol, Ror, Sbc, Sub, Tst, Width, Words,
+};
 
 // How an instruction ended that asks for no service.
 macro_rules! ended {
@@ -43,6 +44,28 @@ fn carry_two<O: OnTwo, Z: Width, B: Bus>(
 ) -> Done
     ensures value { double_step (B.world bus.old) regs.old O.OP Z.SIZE (operand_of (w / 64 % 64)) (operand_of (w % 64)) ≡ told result stop.new regs.new (B.world bus.new) }
     ensures err { result ≡ Done.Stopped → B.world bus.new ≡ B.world bus.old }
+    ensures kept { result ≡ Done.Stopped → regs.new ≡ regs.old }
+    ensures made { B.accesses bus.new ≡ perform_made 0 (B.world bus.old) regs.old (Instr.Double O.OP Z.SIZE (operand_of (w / 64 % 64)) (operand_of (w % 64))) (B.accesses bus.old) }
+{
+    let s = w / 0o100 % 0o100;
+    let d = w % 0o100;
+    if s / 0o10 == 0 && d / 0o10 == 0 {
+        return ended!(do_double_in_registers::<O, Z, B>(bus, regs, s, d), stop);
+    }
+    carry_two_in_memory::<O, Z, B>(bus, regs, w, stop)
+}
+
+/// The same, of operands that aren't both registers.
+#[inline(never)]
+fn carry_two_in_memory<O: OnTwo, Z: Width, B: Bus>(
+    bus: &mut B,
+    regs: &mut Regs,
+    w: u16,
+    stop: &mut Stop,
+) -> Done
+    ensures value { double_step (B.world bus.old) regs.old O.OP Z.SIZE (operand_of (w / 64 % 64)) (operand_of (w % 64)) ≡ told result stop.new regs.new (B.world bus.new) }
+    ensures err { result ≡ Done.Stopped → B.world bus.new ≡ B.world bus.old }
+    ensures kept { result ≡ Done.Stopped → regs.new ≡ regs.old }
     ensures made { B.accesses bus.new ≡ perform_made 0 (B.world bus.old) regs.old (Instr.Double O.OP Z.SIZE (operand_of (w / 64 % 64)) (operand_of (w % 64))) (B.accesses bus.old) }
 {
     ended!(
@@ -56,6 +79,28 @@ fn carry_two<O: OnTwo, Z: Width, B: Bus>(
 fn carry_sum<O: OnSum, B: Bus>(bus: &mut B, regs: &mut Regs, w: u16, stop: &mut Stop) -> Done
     ensures value { sum_step (B.world bus.old) regs.old O.OP (operand_of (w / 64 % 64)) (operand_of (w % 64)) ≡ told result stop.new regs.new (B.world bus.new) }
     ensures err { result ≡ Done.Stopped → B.world bus.new ≡ B.world bus.old }
+    ensures kept { result ≡ Done.Stopped → regs.new ≡ regs.old }
+    ensures made { B.accesses bus.new ≡ perform_made 0 (B.world bus.old) regs.old (Instr.Sum O.OP (operand_of (w / 64 % 64)) (operand_of (w % 64))) (B.accesses bus.old) }
+{
+    let s = w / 0o100 % 0o100;
+    let d = w % 0o100;
+    if s / 0o10 == 0 && d / 0o10 == 0 {
+        return ended!(do_sum_in_registers::<O, B>(bus, regs, s, d), stop);
+    }
+    carry_sum_in_memory::<O, B>(bus, regs, w, stop)
+}
+
+/// The same, of operands that aren't both registers.
+#[inline(never)]
+fn carry_sum_in_memory<O: OnSum, B: Bus>(
+    bus: &mut B,
+    regs: &mut Regs,
+    w: u16,
+    stop: &mut Stop,
+) -> Done
+    ensures value { sum_step (B.world bus.old) regs.old O.OP (operand_of (w / 64 % 64)) (operand_of (w % 64)) ≡ told result stop.new regs.new (B.world bus.new) }
+    ensures err { result ≡ Done.Stopped → B.world bus.new ≡ B.world bus.old }
+    ensures kept { result ≡ Done.Stopped → regs.new ≡ regs.old }
     ensures made { B.accesses bus.new ≡ perform_made 0 (B.world bus.old) regs.old (Instr.Sum O.OP (operand_of (w / 64 % 64)) (operand_of (w % 64))) (B.accesses bus.old) }
 {
     ended!(
@@ -74,6 +119,27 @@ fn carry_one<O: OnOne, Z: Width, B: Bus>(
 ) -> Done
     ensures value { single_step (B.world bus.old) regs.old O.OP Z.SIZE (operand_of (w % 64)) ≡ told result stop.new regs.new (B.world bus.new) }
     ensures err { result ≡ Done.Stopped → B.world bus.new ≡ B.world bus.old }
+    ensures kept { result ≡ Done.Stopped → regs.new ≡ regs.old }
+    ensures made { B.accesses bus.new ≡ perform_made 0 (B.world bus.old) regs.old (Instr.Single O.OP Z.SIZE (operand_of (w % 64))) (B.accesses bus.old) }
+{
+    let d = w % 0o100;
+    if d / 0o10 == 0 {
+        return ended!(do_single_in_register::<O, Z, B>(bus, regs, d), stop);
+    }
+    carry_one_in_memory::<O, Z, B>(bus, regs, w, stop)
+}
+
+/// The same, of an operand that isn't a register.
+#[inline(never)]
+fn carry_one_in_memory<O: OnOne, Z: Width, B: Bus>(
+    bus: &mut B,
+    regs: &mut Regs,
+    w: u16,
+    stop: &mut Stop,
+) -> Done
+    ensures value { single_step (B.world bus.old) regs.old O.OP Z.SIZE (operand_of (w % 64)) ≡ told result stop.new regs.new (B.world bus.new) }
+    ensures err { result ≡ Done.Stopped → B.world bus.new ≡ B.world bus.old }
+    ensures kept { result ≡ Done.Stopped → regs.new ≡ regs.old }
     ensures made { B.accesses bus.new ≡ perform_made 0 (B.world bus.old) regs.old (Instr.Single O.OP Z.SIZE (operand_of (w % 64))) (B.accesses bus.old) }
 {
     ended!(do_single::<O, Z, B>(bus, regs, w % 0o100), stop)
@@ -84,6 +150,7 @@ fn carry_one<O: OnOne, Z: Width, B: Bus>(
 fn double<O: OnTwo, B: Bus>(bus: &mut B, regs: &mut Regs, w: u16, stop: &mut Stop) -> Done
     ensures value { double_step (B.world bus.old) regs.old O.OP (size_at (w / 32768)) (operand_of (w / 64 % 64)) (operand_of (w % 64)) ≡ told result stop.new regs.new (B.world bus.new) }
     ensures err { result ≡ Done.Stopped → B.world bus.new ≡ B.world bus.old }
+    ensures kept { result ≡ Done.Stopped → regs.new ≡ regs.old }
     ensures made { B.accesses bus.new ≡ perform_made 0 (B.world bus.old) regs.old (Instr.Double O.OP (size_at (w / 32768)) (operand_of (w / 64 % 64)) (operand_of (w % 64))) (B.accesses bus.old) }
 {
     if w / 0o100000 == 0 {
@@ -98,6 +165,7 @@ fn double<O: OnTwo, B: Bus>(bus: &mut B, regs: &mut Regs, w: u16, stop: &mut Sto
 fn single<O: OnOne, B: Bus>(bus: &mut B, regs: &mut Regs, w: u16, stop: &mut Stop) -> Done
     ensures value { single_step (B.world bus.old) regs.old O.OP (size_at (w / 32768)) (operand_of (w % 64)) ≡ told result stop.new regs.new (B.world bus.new) }
     ensures err { result ≡ Done.Stopped → B.world bus.new ≡ B.world bus.old }
+    ensures kept { result ≡ Done.Stopped → regs.new ≡ regs.old }
     ensures made { B.accesses bus.new ≡ perform_made 0 (B.world bus.old) regs.old (Instr.Single O.OP (size_at (w / 32768)) (operand_of (w % 64))) (B.accesses bus.old) }
 {
     if w / 0o100000 == 0 {
@@ -134,6 +202,7 @@ fn branch(regs: &mut Regs, c: Condition, w: u16) -> Done
 fn other<B: Bus>(bus: &mut B, regs: &mut Regs, at: u16, w: u16, stop: &mut Stop) -> Done
     ensures value { perform_first at (B.world bus.old) regs.old (other_first w) ≡ told result stop.new regs.new (B.world bus.new) }
     ensures err { result ≡ Done.Stopped → B.world bus.new ≡ B.world bus.old }
+    ensures kept { result ≡ Done.Stopped → regs.new ≡ regs.old }
     ensures made { B.accesses bus.new ≡ first_made at (B.world bus.old) regs.old (other_first w) (B.accesses bus.old) }
 {
     if w / 0o1000 == 0o77 {
@@ -175,6 +244,7 @@ fn register_or_more<B: Bus>(bus: &mut B, regs: &mut Regs, at: u16, w: u16, stop:
     requires { condition_of (w / 256) ≡ None }
     ensures value { perform_first at (B.world bus.old) regs.old (from_registers w) ≡ told result stop.new regs.new (B.world bus.new) }
     ensures err { result ≡ Done.Stopped → B.world bus.new ≡ B.world bus.old }
+    ensures kept { result ≡ Done.Stopped → regs.new ≡ regs.old }
     ensures made { B.accesses bus.new ≡ first_made at (B.world bus.old) regs.old (from_registers w) (B.accesses bus.old) }
 {
     let r = register(w / 0o100 % 0o10);
@@ -195,6 +265,7 @@ fn word_or_more<B: Bus>(bus: &mut B, regs: &mut Regs, at: u16, w: u16, stop: &mu
     requires { condition_of (w / 256) ≡ None }
     ensures value { perform_first at (B.world bus.old) regs.old (from_words w) ≡ told result stop.new regs.new (B.world bus.new) }
     ensures err { result ≡ Done.Stopped → B.world bus.new ≡ B.world bus.old }
+    ensures kept { result ≡ Done.Stopped → regs.new ≡ regs.old }
     ensures made { B.accesses bus.new ≡ first_made at (B.world bus.old) regs.old (from_words w) (B.accesses bus.old) }
 {
     match w / 0o100 {
@@ -204,36 +275,18 @@ fn word_or_more<B: Bus>(bus: &mut B, regs: &mut Regs, at: u16, w: u16, stop: &mu
     }
 }
 
-/// One operand, of words or bytes, or the groups behind, where it is no branch.
-#[inline(always)]
-fn single_or_more<B: Bus>(bus: &mut B, regs: &mut Regs, at: u16, w: u16, stop: &mut Stop) -> Done
-    requires { condition_of (w / 256) ≡ None }
-    ensures value { perform_first at (B.world bus.old) regs.old (from_singles w) ≡ told result stop.new regs.new (B.world bus.new) }
-    ensures err { result ≡ Done.Stopped → B.world bus.new ≡ B.world bus.old }
-    ensures made { B.accesses bus.new ≡ first_made at (B.world bus.old) regs.old (from_singles w) (B.accesses bus.old) }
-{
-    match w / 0o100 % 0o1000 {
-        0o50 => single::<Clr, B>(bus, regs, w, stop),
-        0o51 => single::<Com, B>(bus, regs, w, stop),
-        0o52 => single::<Inc, B>(bus, regs, w, stop),
-        0o53 => single::<Dec, B>(bus, regs, w, stop),
-        0o54 => single::<Neg, B>(bus, regs, w, stop),
-        0o55 => single::<Adc, B>(bus, regs, w, stop),
-        0o56 => single::<Sbc, B>(bus, regs, w, stop),
-        0o57 => single::<Tst, B>(bus, regs, w, stop),
-        0o60 => single::<Ror, B>(bus, regs, w, stop),
-        0o61 => single::<Rol, B>(bus, regs, w, stop),
-        0o62 => single::<Asr, B>(bus, regs, w, stop),
-        0o63 => single::<Asl, B>(bus, regs, w, stop),
-        _ => word_or_more(bus, regs, at, w, stop),
-    }
-}
-
 /// No other instruction is a branch.
 #[inline(always)]
 fn is_no_branch(w: u16)
     requires { w / 4096 % 8 ≢ 0 }
     ensures { condition_of (w / 256) ≡ None }
+{}
+
+/// Nor is it one of one operand alone.
+#[inline(always)]
+fn has_a_register(w: u16)
+    requires { w / 4096 % 8 ≡ 7 }
+    ensures { from_singles w ≡ from_registers w }
 {}
 
 /// What is no instruction of two operands.
@@ -250,26 +303,39 @@ fn one_at_most<B: Bus>(bus: &mut B, regs: &mut Regs, at: u16, w: u16, stop: &mut
     requires { w / 4096 % 8 ≡ 0 }
     ensures value { perform_first at (B.world bus.old) regs.old (first_of w) ≡ told result stop.new regs.new (B.world bus.new) }
     ensures err { result ≡ Done.Stopped → B.world bus.new ≡ B.world bus.old }
+    ensures kept { result ≡ Done.Stopped → regs.new ≡ regs.old }
     ensures made { B.accesses bus.new ≡ first_made at (B.world bus.old) regs.old (first_of w) (B.accesses bus.old) }
 {
     has_one_at_most(w);
-    match w / 0o400 {
-        1 => branch(regs, Condition::Always, w),
-        2 => branch(regs, Condition::NotEqual, w),
-        3 => branch(regs, Condition::Equal, w),
-        4 => branch(regs, Condition::AtLeast, w),
-        5 => branch(regs, Condition::Less, w),
-        6 => branch(regs, Condition::Greater, w),
-        7 => branch(regs, Condition::AtMost, w),
-        0o200 => branch(regs, Condition::Plus, w),
-        0o201 => branch(regs, Condition::Minus, w),
-        0o202 => branch(regs, Condition::Higher, w),
-        0o203 => branch(regs, Condition::LowerSame, w),
-        0o204 => branch(regs, Condition::NoOverflow, w),
-        0o205 => branch(regs, Condition::Overflow, w),
-        0o206 => branch(regs, Condition::NoCarry, w),
-        0o207 => branch(regs, Condition::Carry, w),
-        _ => single_or_more(bus, regs, at, w, stop),
+    match w / 0o100 {
+        0o4 | 0o5 | 0o6 | 0o7 => branch(regs, Condition::Always, w),
+        0o10 | 0o11 | 0o12 | 0o13 => branch(regs, Condition::NotEqual, w),
+        0o14 | 0o15 | 0o16 | 0o17 => branch(regs, Condition::Equal, w),
+        0o20 | 0o21 | 0o22 | 0o23 => branch(regs, Condition::AtLeast, w),
+        0o24 | 0o25 | 0o26 | 0o27 => branch(regs, Condition::Less, w),
+        0o30 | 0o31 | 0o32 | 0o33 => branch(regs, Condition::Greater, w),
+        0o34 | 0o35 | 0o36 | 0o37 => branch(regs, Condition::AtMost, w),
+        0o1000 | 0o1001 | 0o1002 | 0o1003 => branch(regs, Condition::Plus, w),
+        0o1004 | 0o1005 | 0o1006 | 0o1007 => branch(regs, Condition::Minus, w),
+        0o1010 | 0o1011 | 0o1012 | 0o1013 => branch(regs, Condition::Higher, w),
+        0o1014 | 0o1015 | 0o1016 | 0o1017 => branch(regs, Condition::LowerSame, w),
+        0o1020 | 0o1021 | 0o1022 | 0o1023 => branch(regs, Condition::NoOverflow, w),
+        0o1024 | 0o1025 | 0o1026 | 0o1027 => branch(regs, Condition::Overflow, w),
+        0o1030 | 0o1031 | 0o1032 | 0o1033 => branch(regs, Condition::NoCarry, w),
+        0o1034 | 0o1035 | 0o1036 | 0o1037 => branch(regs, Condition::Carry, w),
+        0o50 | 0o1050 => single::<Clr, B>(bus, regs, w, stop),
+        0o51 | 0o1051 => single::<Com, B>(bus, regs, w, stop),
+        0o52 | 0o1052 => single::<Inc, B>(bus, regs, w, stop),
+        0o53 | 0o1053 => single::<Dec, B>(bus, regs, w, stop),
+        0o54 | 0o1054 => single::<Neg, B>(bus, regs, w, stop),
+        0o55 | 0o1055 => single::<Adc, B>(bus, regs, w, stop),
+        0o56 | 0o1056 => single::<Sbc, B>(bus, regs, w, stop),
+        0o57 | 0o1057 => single::<Tst, B>(bus, regs, w, stop),
+        0o60 | 0o1060 => single::<Ror, B>(bus, regs, w, stop),
+        0o61 | 0o1061 => single::<Rol, B>(bus, regs, w, stop),
+        0o62 | 0o1062 => single::<Asr, B>(bus, regs, w, stop),
+        0o63 | 0o1063 => single::<Asl, B>(bus, regs, w, stop),
+        _ => word_or_more(bus, regs, at, w, stop),
     }
 }
 
@@ -279,6 +345,7 @@ fn sum<B: Bus>(bus: &mut B, regs: &mut Regs, at: u16, w: u16, stop: &mut Stop) -
     requires { w / 4096 % 8 ≡ 6 }
     ensures value { perform_first at (B.world bus.old) regs.old (first_of w) ≡ told result stop.new regs.new (B.world bus.new) }
     ensures err { result ≡ Done.Stopped → B.world bus.new ≡ B.world bus.old }
+    ensures kept { result ≡ Done.Stopped → regs.new ≡ regs.old }
     ensures made { B.accesses bus.new ≡ first_made at (B.world bus.old) regs.old (first_of w) (B.accesses bus.old) }
 {
     if w / 0o100000 == 0 {
@@ -295,6 +362,7 @@ fn sum<B: Bus>(bus: &mut B, regs: &mut Regs, at: u16, w: u16, stop: &mut Stop) -
 pub fn carry_out<B: Bus>(bus: &mut B, regs: &mut Regs, at: u16, w: u16, stop: &mut Stop) -> Done
     ensures value { perform_first at (B.world bus.old) regs.old (first_of w) ≡ told result stop.new regs.new (B.world bus.new) }
     ensures err { result ≡ Done.Stopped → B.world bus.new ≡ B.world bus.old }
+    ensures kept { result ≡ Done.Stopped → regs.new ≡ regs.old }
     ensures made { B.accesses bus.new ≡ first_made at (B.world bus.old) regs.old (first_of w) (B.accesses bus.old) }
 {
     match w / 0o10000 % 0o10 {
@@ -308,7 +376,8 @@ pub fn carry_out<B: Bus>(bus: &mut B, regs: &mut Regs, at: u16, w: u16, stop: &m
         _ => {
             has_one_at_most(w);
             is_no_branch(w);
-            single_or_more(bus, regs, at, w, stop)
+            has_a_register(w);
+            register_or_more(bus, regs, at, w, stop)
         }
     }
 }

@@ -1,20 +1,17 @@
 //! One instruction of the machine, a PDP-11, over any memory.
 //!
-//! - [`step`]: one instruction, which is the definition `execute` for any [`Bus`].
+//! - [`step`]: one instruction, which is the definition `execute` for any [`Bus`]; [`carry_on`] tells its stop beside.
 //! - [`Bus`]: a memory with the leave that a task has to use it. [`Protection`] says which parts are a task's.
-//! - [`laws`]: what the effects mean for the numbers, signed and unsigned, that words and bytes stand for.
 #![tactic(auto)]
 
 pub mod cpu;
 mod execute;
+mod flags;
 mod groups;
-pub mod laws;
 pub mod memory;
 mod operand;
-mod operations;
-mod shift;
-mod value;
+mod pairs;
 
-pub use cpu::{Kind, Refused, Regs, Stop};
-pub use execute::step;
+pub use cpu::{Done, Kind, Refused, Regs, Stop};
+pub use execute::{carry_on, step};
 pub use memory::{Bus, MEMORY_END, Protection};

@@ -1,18 +1,20 @@
 // Where operands are, and their values.
-ghost use Rattle.std.specs.Prelude.{◌≡◌, ◌≢◌, ◌%◌, ◌<◌, OnErr, IfOk};
+ghost use Rattle.std.specs.Prelude.{◌≡◌, ◌≢◌, ◌%◌, ◌<◌, Ok, OnErr, IfOk};
 ghost use Rattle.pdp_code.specs.Code.{reg_code};
+ghost use Rattle.pdp_code.specs.declared.instruction.Reg.TheVariants.{Pc};
 ghost use Rattle.pdp_code.specs.First.{reg_of, pointer_of, operand_of};
 ghost use Rattle.rt_words.specs.Word.{wrap_add as sum_of, wrap_sub as difference_of};
 ghost use Rattle.pdp_core.specs.Log.{noted, FetchesWord, ReadsWord, WritesWord, WritesByte};
-ghost use Rattle.pdp_core.specs.Accesses.{next_made, address_made, load_made, operand_made, store_made};
+ghost use Rattle.pdp_core.specs.Accesses.{next_made, after, address_made, load_made, operand_made, store_made};
 ghost use Rattle.pdp_core.specs.World.{word_written, byte_written};
-ghost use Rattle.pdp_core.specs.Execute.{and_then, of_refused, of_memory, goes_on, limit, reg, with_reg, pointer_reg, stride, fetch, load_word, next_word, address, load, operand, store, paired, left};
+ghost use Rattle.pdp_values.specs.Values.{limit};
+ghost use Rattle.pdp_core.specs.Execute.{and_then, of_refused, of_memory, goes_on, reg, with_reg, pointer_reg, stride, fetch, load_word, next_word, address, load, operand, store, paired, left};
 ghost use Rattle.pdp_core.specs.Spots.{place_of, placed};
 
 use crate::cpu::{Failure, Kind, Refused, Regs, Spot};
 use crate::memory::Bus;
-use crate::value::set_low_byte;
 use pdp_code::{Reg, Size};
+use pdp_values::set_low_byte;
 use rt_words::{wrap_add, wrap_sub};
 
 /// A register's number.
@@ -130,6 +132,7 @@ pub fn word_at<B: Bus>(bus: &mut B, at: u16) -> Result<u16, Failure>
 pub fn next<B: Bus>(bus: &mut B, regs: &mut Regs) -> Result<u16, Failure>
     ensures value { next_word (B.world bus.old) regs.old ≡ paired result regs.new }
     ensures kept { B.world bus.new ≡ B.world bus.old }
+    ensures err { OnErr result (regs.new ≡ regs.old) }
     ensures made { B.accesses bus.new ≡ next_made regs.old (B.accesses bus.old) }
 {
     let at = get(regs, Reg::Pc);
@@ -160,11 +163,41 @@ fn step_down(regs: &mut Regs, n: u16, by: u16) -> u16
     at
 }
 
+/// Gives a register of three bits and the program counter the words back that they had.
+#[inline(always)]
+pub fn undo(regs: &mut Regs, n: u16, x: u16, at: u16)
+    ensures { regs.new ≡ with_reg (with_reg regs.old (reg_of (n % 8)) x) Pc at }
+{
+    set_at(regs, n, x);
+    set(regs, Reg::Pc, at);
+}
+
+/// The address that stands at a register's word and the next word of the instruction, added.
+#[tactic(auto, using(crate::proofs::Undoing::word_given_back))]
+#[inline(always)]
+fn index_deferred<B: Bus>(bus: &mut B, regs: &mut Regs, n: u16) -> Result<u16, Failure>
+    ensures value { and_then (next_word (B.world bus.old) regs.old) (λ x. and_then (load_word (B.world bus.old) (sum_of x.0 (reg x.1 (reg_of (n % 8))))) (λ a. Ok (a, x.1))) ≡ paired result regs.new }
+    ensures kept { B.world bus.new ≡ B.world bus.old }
+    ensures err { OnErr result (regs.new ≡ regs.old) }
+    ensures made { B.accesses bus.new ≡ after (next_word (B.world bus.old) regs.old) (λ x. noted (ReadsWord (sum_of x.0 (reg x.1 (reg_of (n % 8)))))) (next_made regs.old (B.accesses bus.old)) }
+{
+    let at = get(regs, Reg::Pc);
+    let x = next(bus, regs)?;
+    match word_at(bus, wrap_add(x, get_at(regs, n))) {
+        Ok(a) => Ok(a),
+        Err(failure) => {
+            set(regs, Reg::Pc, at);
+            Err(failure)
+        }
+    }
+}
+
 /// Where the operand of six bits is: three for its mode, and three for its register.
 #[inline(always)]
 pub fn find<B: Bus>(bus: &mut B, size: Size, regs: &mut Regs, n: u16) -> Result<Spot, Failure>
     ensures value { address (B.world bus.old) size regs.old (operand_of n) ≡ placed result regs.new }
     ensures kept { B.world bus.new ≡ B.world bus.old }
+    ensures err { OnErr result (regs.new ≡ regs.old) }
     ensures made { B.accesses bus.new ≡ address_made (B.world bus.old) regs.old (operand_of n) (B.accesses bus.old) }
 {
     match n / 0o10 {
@@ -181,22 +214,22 @@ pub fn find<B: Bus>(bus: &mut B, size: Size, regs: &mut Regs, n: u16) -> Result<
         3 => if n % 0o10 == 7 {
             Ok(Spot::Memory(next(bus, regs)?))
         } else {
-            let at = step_up(regs, pointer(n), 2);
-            Ok(Spot::Memory(word_at(bus, at)?))
+            let r = pointer(n);
+            let a = word_at(bus, get_at(regs, r))?;
+            step_up(regs, r, 2);
+            Ok(Spot::Memory(a))
         },
-        4 => { Ok(Spot::Memory(step_down(regs, n, stride_of(size, n)))) }
+        4 => Ok(Spot::Memory(step_down(regs, n, stride_of(size, n)))),
         5 => {
-            let at = step_down(regs, n, 2);
-            Ok(Spot::Memory(word_at(bus, at)?))
+            let a = word_at(bus, wrap_sub(get_at(regs, n), 2))?;
+            step_down(regs, n, 2);
+            Ok(Spot::Memory(a))
         }
         6 => {
             let x = next(bus, regs)?;
             Ok(Spot::Memory(wrap_add(x, get_at(regs, n))))
         }
-        _ => {
-            let x = next(bus, regs)?;
-            Ok(Spot::Memory(word_at(bus, wrap_add(x, get_at(regs, n)))?))
-        }
+        _ => Ok(Spot::Memory(index_deferred(bus, regs, n)?)),
     }
 }
 
@@ -228,18 +261,28 @@ pub fn load_at<B: Bus>(bus: &mut B, size: Size, regs: &Regs, place: Spot) -> Res
 }
 
 /// The value of the operand of six bits.
+#[tactic(auto, using(crate::proofs::Undoing::found_given_back))]
 #[inline(always)]
 pub fn value<B: Bus>(bus: &mut B, size: Size, regs: &mut Regs, n: u16) -> Result<u16, Failure>
     ensures value { operand (B.world bus.old) size regs.old (operand_of n) ≡ paired result regs.new }
     ensures small { IfOk result (λ x. x < limit size) }
     ensures kept { B.world bus.new ≡ B.world bus.old }
+    ensures err { OnErr result (regs.new ≡ regs.old) }
     ensures made { B.accesses bus.new ≡ operand_made (B.world bus.old) size regs.old (operand_of n) (B.accesses bus.old) }
 {
     if n / 0o10 == 0 {
         return load_at(bus, size, regs, Spot::Register(n));
     }
+    let kept = get_at(regs, n);
+    let at = get(regs, Reg::Pc);
     let place = find(bus, size, regs, n)?;
-    load_at(bus, size, regs, place)
+    match load_at(bus, size, regs, place) {
+        Ok(x) => Ok(x),
+        Err(failure) => {
+            undo(regs, n, kept, at);
+            Err(failure)
+        }
+    }
 }
 
 /// Writes a word to the memory.
@@ -272,6 +315,7 @@ fn write_byte<B: Bus>(bus: &mut B, regs: &Regs, at: u16, x: u8) -> Result<(), Fa
 pub fn store_word<B: Bus>(bus: &mut B, regs: &mut Regs, place: Spot, x: u16) -> Result<(), Failure>
     ensures value { store (B.world bus.old) Size.Word regs.old (place_of place) x ≡ left result regs.new (B.world bus.new) }
     ensures err { OnErr result (B.world bus.new ≡ B.world bus.old) }
+    ensures kept { OnErr result (regs.new ≡ regs.old) }
     ensures made { B.accesses bus.new ≡ store_made Size.Word (place_of place) (B.accesses bus.old) }
 {
     match place {
@@ -279,8 +323,7 @@ pub fn store_word<B: Bus>(bus: &mut B, regs: &mut Regs, place: Spot, x: u16) -> 
             set_at(regs, n, x);
             Ok(())
         }
-        Spot::Memory(a) => write_word(bus, regs, a, x),
-        Spot::Code(a, _) => write_word(bus, regs, a, x),
+        Spot::Memory(a) | Spot::Code(a, _) => write_word(bus, regs, a, x),
     }
 }
 
@@ -289,6 +332,7 @@ pub fn store_word<B: Bus>(bus: &mut B, regs: &mut Regs, place: Spot, x: u16) -> 
 pub fn store_byte<B: Bus>(bus: &mut B, regs: &mut Regs, place: Spot, x: u8) -> Result<(), Failure>
     ensures value { store (B.world bus.old) Size.Byte regs.old (place_of place) x ≡ left result regs.new (B.world bus.new) }
     ensures err { OnErr result (B.world bus.new ≡ B.world bus.old) }
+    ensures kept { OnErr result (regs.new ≡ regs.old) }
     ensures made { B.accesses bus.new ≡ store_made Size.Byte (place_of place) (B.accesses bus.old) }
 {
     match place {
@@ -297,8 +341,7 @@ pub fn store_byte<B: Bus>(bus: &mut B, regs: &mut Regs, place: Spot, x: u8) -> R
             set_at(regs, n, whole);
             Ok(())
         }
-        Spot::Memory(a) => write_byte(bus, regs, a, x),
-        Spot::Code(a, _) => write_byte(bus, regs, a, x),
+        Spot::Memory(a) | Spot::Code(a, _) => write_byte(bus, regs, a, x),
     }
 }
 
@@ -314,6 +357,7 @@ pub fn store_at<B: Bus>(
     requires { x < limit size }
     ensures value { store (B.world bus.old) size regs.old (place_of place) x ≡ left result regs.new (B.world bus.new) }
     ensures err { OnErr result (B.world bus.new ≡ B.world bus.old) }
+    ensures kept { OnErr result (regs.new ≡ regs.old) }
     ensures made { B.accesses bus.new ≡ store_made size (place_of place) (B.accesses bus.old) }
 {
     match size {

@@ -33,7 +33,8 @@ use Rattle.pdp_core.specs.declared.cpu.Stop.TheVariants.{Went}
 use Rattle.pdp_core.specs.declared.cpu.Place.{Place}
 use Rattle.pdp_core.specs.declared.cpu.Place.TheVariants.{InRegister, InMemory, InCode}
 use Rattle.pdp_core.specs.World.{World, word_at, byte_at, put_word, put_byte}
-use Rattle.pdp_core.specs.Execute.{Outcome, and_then, reg, with_reg, fetch, load_word, operand, address, load, store, goes_on, negative, double, sum, single, single_read, single_end, single_value, on_word, by_value, by_difference, by_sum, perform, call, return_by, loop, branch, holds, on_register, target, with_product, divided, magnitude, signed_word, shifted, shift_word, shift_pair, pair, product_of, too_large, quotient_word, remainder_word}
+use Rattle.pdp_values.specs.Values.{negative, single_value, magnitude, signed_word, shifted, product_of, too_large, quotient_word, remainder_word}
+use Rattle.pdp_core.specs.Execute.{Outcome, and_then, reg, with_reg, fetch, load_word, operand, address, load, store, goes_on, double, sum, single, single_read, single_end, on_word, by_value, by_difference, by_sum, perform, call, return_by, loop, branch, holds, on_register, target, with_product, divided, shift_word, shift_pair, pair}
 use Rattle.pdp_core.specs.Protection.{usable}
 use Rattle.pdp_symbolic.specs.Machine.{Layout, IsLaid, protection, memory, Machine, Held, held, regs, WordsAt, Holds, Matches, SameData, Stands}
 use Rattle.pdp_symbolic.specs.Acts.{Act, Quiet, Reads, WritesByte, Splits, Asks, Target, ToReg, ToPush, ToTop, ToOwn, ToBlock, ToPopped, ToFixed, ToShared, past, popped, pop, top, source, byte_source, aim, look, put, put_reg, replaced, flagged, flagged_difference, flagged_sum, flagged_byte, flagged_one, on_two, on_sum, on_one, on_words, put_one, move_byte, double_bytes, flagged_product, multiplied, shifted_by, shifted_pair, divided_by, replaced_low, on_reg, act_register, act_on, act_call, act_return, act_loop, jumped}

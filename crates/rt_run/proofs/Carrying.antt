@@ -2,20 +2,22 @@
 use Rattle.std.proofs.Common.{◌≡◌, ℕ, true, false, List, Option, Some, None, Ok, refl, sym, ap, ◌∙◌, subst, arith, ◌+◌, ◌%◌, [], ◌∷◌}
 use Rattle.std.specs.Prelude.{slice_get}
 use Rattle.std.specs.Io.KnownBytes.{Appends}
-use Rattle.pdp_code.specs.declared.instruction.Reg.TheVariants.{R0}
+use Rattle.std.proofs.lemmas.List.{get_or-set_other}
+use Rattle.rt_words.specs.Word.{wrap_add}
+use Rattle.pdp_code.specs.declared.instruction.Reg.TheVariants.{R0, Pc}
 use Rattle.pdp_core.specs.declared.cpu.Regs.{Regs}
 use Rattle.pdp_core.specs.declared.cpu.Stop.TheVariants.{Went as Done, Trap}
-use Rattle.pdp_core.specs.Execute.{reg, with_reg}
+use Rattle.pdp_core.specs.Execute.{reg, with_reg, past_word}
 use Rattle.rt_tasks.specs.Parts.{Sharing}
 use Rattle.rt_tasks.specs.Steps.{Steps}
 use Rattle.rt_rules.specs.Roster.{Roster}
 use Rattle.rt_run.specs.declared.carry.Carried.{Carried}
-use Rattle.rt_run.specs.declared.carry.Carried.TheVariants.{Went, Served, Fault as Failed, ReadFault, WriteFault}
+use Rattle.rt_run.specs.declared.carry.Carried.TheVariants.{Went}
 use Rattle.rt_run.specs.declared.carry.Granted.{Granted}
 use Rattle.rt_run.specs.declared.carry.Granted.TheVariants.{Nothing, Gave, Took}
 use Rattle.rt_run.specs.declared.service.Answer.TheVariants.{Silence, Value}
 use Rattle.rt_run.specs.Inputs.{Feed}
-use Rattle.rt_run.specs.Carrying.{Takes, Reads, Given, Putting, Calling, Carries, IsDone, IsAsked, IsAdvanced, IsCarried, byte_or_end}
+use Rattle.rt_run.specs.Carrying.{Takes, Reads, Given, Putting, Calling, Carries, IsAsked, IsServedBy, IsCarried, byte_or_end}
 use Rattle.rt_run.proofs.Feeding.{gives_nothing, appends_nothing}
 
 -- ---- what the instruction came to
@@ -105,25 +107,29 @@ module _ (i : ℕ) (from to : Feed) (written written2 : Option (List ℕ)) (g h 
     puts = appends_nothing written;
   }
 
-  from_done : (x : Carried) → IsDone x i g s r h s2 r2 → IsCarried x i from written g s r from written h s2 r2
-  from_done Went a = (subst (λ (q : Roster). Carries i from written g s r from written h s2 q) (sym a.1) (from_went a.0), a.1)
-  from_done Served a = from_calling a
-  from_done (Failed k at) a = (a, refl, refl)
-  from_done ReadFault a = absurd a
-  from_done WriteFault a = absurd a
-
   from_went_on : (x : Carried) → x ≡ Went → r2 ≡ r → Carries i from written g s r to written2 h s2 r → IsCarried x i from written g s r to written2 h s2 r2
   from_went_on x e same c = subst (λ (y : Carried). IsCarried y i from written g s r to written2 h s2 r2) (sym e) (subst (λ (q : Roster). Carries i from written g s r to written2 h s2 q) (sym same) c, same)
 
--- the console granted something, and the instruction was carried out
-pub carried_by : (x : Carried) (a : Granted) (i : ℕ) (from to : Feed) (written written2 : Option (List ℕ)) (g h : Regs) (s s2 : Sharing) (r r2 : Roster) → IsAsked (Ok a) from written g s to written2 → IsAdvanced x a i g s r h s2 r2 → IsCarried x i from written g s r to written2 h s2 r2
-carried_by x Nothing i from to written written2 g h s s2 r r2 q d =
-    subst (λ (f : Feed). IsCarried x i from written g s r f written2 h s2 r2) (sym q.1)
-    (subst (λ (o : Option (List ℕ)). IsCarried x i from written g s r from o h s2 r2) (sym q.2)
-    (from_done i from to written written2 g h s s2 r r2 x d))
-carried_by x (Gave n) i from to written written2 g h s s2 r r2 q d =
+  -- an instruction that wants nothing of the console
+  pub carried_on : Steps g s Done h s2 → IsCarried Went i from written g s r from written h s2 r
+  carried_on a = (from_went a, refl)
+
+-- a TRAP changes no register but the program counter
+argument_kept : (g after : Regs) → after ≡ past_word g → reg after R0 ≡ reg g R0
+argument_kept g after e = ap (λ (k : Regs). reg k R0) e ∙ get_or-set_other g.r 7 0 (wrap_add (reg g Pc) 2) 0 (λ (q : 0 ≡ 7). absurd (omega (arith, q)))
+
+-- the console granted a TRAP something, and its task was served
+pub served_by : (x : Carried) (a : Granted) (i n : ℕ) (from to : Feed) (written written2 : Option (List ℕ)) (g after h : Regs) (s s2 : Sharing) (r r2 : Roster) → after ≡ past_word g → Steps g s (Trap n) after s2 → IsAsked (Ok a) n from written after to written2 → IsServedBy x a i n r after r2 h → IsCarried x i from written g s r to written2 h s2 r2
+served_by x Nothing i n from to written written2 g after h s s2 r r2 past steps q d =
+    subst (λ (y : Carried). IsCarried y i from written g s r to written2 h s2 r2) (sym d.0)
+    (subst (λ (f : Feed). Carries i from written g s r f written2 h s2 r2) (sym q.1)
+    (subst (λ (o : Option (List ℕ)). Carries i from written g s r from o h s2 r2) (sym q.2)
+    (from_calling i from to written written2 g h s s2 r r2 (record { number = n; after = after; no_read = (q.0).0; no_put = (q.0).1; steps = steps; served = d.1 }))))
+served_by x (Gave v) i n from to written written2 g after h s s2 r r2 past steps q d =
     subst (λ (o : Option (List ℕ)). IsCarried x i from written g s r to o h s2 r2) (sym q.2)
-    (from_went_on i from to written written g h s s2 r r2 x d.0 d.2 (from_reading i from to written written2 g h s s2 r r2 n q.1 d.1))
-carried_by x Took i from to written written2 g h s s2 r r2 q d =
+    (from_went_on i from to written written g h s s2 r r2 x d.0 d.2 (from_reading i from to written written2 g h s s2 r r2 v q.1 (record { after = after; steps = subst (λ (m : ℕ). Steps g s (Trap m) after s2) q.0 steps; answers = d.1 })))
+served_by x Took i n from to written written2 g after h s s2 r r2 past steps q d =
+    let put : Appends written written2 (reg g R0 % 256 ∷ []) = subst (λ (v : ℕ). Appends written written2 (v % 256 ∷ [])) (argument_kept g after past) q.2 in
+    let did : Steps g s (Trap 2) h s2 = subst (λ (k : Regs). Steps g s (Trap 2) k s2) (sym d.1) (subst (λ (m : ℕ). Steps g s (Trap m) after s2) q.0 steps) in
     subst (λ (f : Feed). IsCarried x i from written g s r f written2 h s2 r2) (sym q.1)
-    (from_went_on i from from written written2 g h s s2 r r2 x d.0 d.2 (from_writing i from to written written2 g h s s2 r r2 q.2 d.1))
+    (from_went_on i from from written written2 g h s s2 r r2 x d.0 d.2 (from_writing i from to written written2 g h s s2 r r2 put (record { steps = did; argument = ap (λ (k : Regs). reg k R0) d.1 ∙ argument_kept g after past })))

@@ -1,5 +1,5 @@
 -- How many tasks and ticks the states of a run have.
-use Rattle.std.proofs.Common.{◌≡◌, ℕ, zero, suc, ◌+◌, ◌-◌, Bool, true, false, if◌then◌else◌, List, [], ◌∷◌, ◌++◌, length, map, Option, Some, None, refl, sym, ap, ◌∙◌, arith, length-append}
+use Rattle.std.proofs.Common.{◌≡◌, ℕ, zero, suc, ◌-◌, Bool, true, false, if◌then◌else◌, List, [], ◌∷◌, length, map, Option, Some, None, refl, ap, ◌∙◌, arith, length-append}
 use Rattle.std.specs.Prelude.{slice_get}
 use Rattle.pdp_code.specs.declared.instruction.Reg.TheVariants.{Pc}
 use Rattle.pdp_core.specs.declared.cpu.Regs.{Regs}
@@ -10,7 +10,7 @@ use Rattle.pdp_core.specs.Protection.{protected}
 use Rattle.rt_image.specs.declared.image.ImageParts.{ImageParts}
 use Rattle.rt_image.specs.Memory.{mark_at}
 use Rattle.rt_rules.specs.Roster.{Roster}
-use Rattle.rt_rules.specs.Rules.{running, tick}
+use Rattle.rt_rules.specs.Rules.{running}
 use Rattle.rt_tasks.specs.Start.{places_of}
 use Rattle.rt_run.specs.declared.service.Request.{Request}
 use Rattle.rt_run.specs.declared.service.Request.TheVariants.{Nothing, Reads, Puts, Calls}

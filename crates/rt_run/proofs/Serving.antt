@@ -1,5 +1,5 @@
 -- What services keep of the rules.
-use Rattle.std.proofs.Common.{◌≡◌, ℕ, zero, suc, ◌+◌, ◌≤◌, Bool, true, false, if◌then◌else◌, ◌==◌, List, [], ◌++◌, length, Option, Some, None, refl, ap, ◌∙◌, subst, arith, length-set}
+use Rattle.std.proofs.Common.{◌≡◌, ℕ, zero, suc, ◌+◌, ◌≤◌, Bool, true, false, if◌then◌else◌, ◌==◌, List, [], ◌++◌, length, Option, Some, None, refl, sym, ap, ◌∙◌, subst, arith, length-set}
 use Rattle.std.specs.Prelude.{slice_get}
 use Rattle.rt_rules.specs.declared.task.State.{State as Condition}
 use Rattle.rt_rules.specs.declared.task.TaskRow.{TaskRow}
@@ -15,8 +15,10 @@ use Rattle.rt_run.specs.Services.{Served, serve, asked_by}
 use Rattle.pdp_core.specs.declared.cpu.Regs.{Regs}
 use Rattle.rt_tasks.specs.Parts.{Sharing}
 use Rattle.rt_run.specs.Inputs.{Feed}
-use Rattle.rt_run.specs.Carrying.{Carries}
-use Rattle.rt_run.specs.Turn.{Lasts}
+use Rattle.rt_run.specs.declared.carry.Carried.{Carried}
+use Rattle.rt_run.specs.declared.carry.Carried.TheVariants.{Went, Served as Asked, Fault as Failed, ReadFault, WriteFault}
+use Rattle.rt_run.specs.Carrying.{Carries, IsCarried}
+use Rattle.rt_run.specs.Turn.{Lasts, ended_by}
 
 abbrev pub Kept : Roster → Roster → Type 0
 Kept r q = length q.tasks ≡ length r.tasks
@@ -103,3 +105,14 @@ lasts_more law i count from to written written2 g h sh0 sh sh2 r r2 ranges runs 
 
 pub lasts_before : (count : ℕ) (sh0 sh : Sharing) (r r2 : Roster) → Lasts sh0 r count sh r2 → r2 ≡ r → Lasts sh0 r count sh r
 lasts_before count sh0 sh r r2 l same = subst (λ (q : Roster). Lasts sh0 r count sh q) same l
+
+lasts_still : (count : ℕ) (sh0 sh sh2 : Sharing) (r r2 : Roster) → Lasts sh0 r count sh r → sh2 ≡ sh → r2 ≡ r → Lasts sh0 r count sh2 r2
+lasts_still count sh0 sh sh2 r r2 l shared rules = subst (λ (x : Sharing). Lasts sh0 r count x r2) (sym shared) (subst (λ (q : Roster). Lasts sh0 r count sh q) (sym rules) l)
+
+-- an instruction by which a stretch ends
+pub lasts_ended : ServiceRaises → (x : Carried) (i count marks mark : ℕ) (from to : Feed) (written written2 : Option (List ℕ)) (g h : Regs) (sh0 sh sh2 : Sharing) (r r2 : Roster) → InRanges r → running r ≡ Some i → Lasts sh0 r count sh r → IsCarried x i from written g sh r to written2 h sh2 r2 → Lasts sh0 r (ended_by x count marks mark).count sh2 r2
+lasts_ended law Went i count marks mark from to written written2 g h sh0 sh sh2 r r2 ranges runs l c = lasts_more law i count from to written written2 g h sh0 sh sh2 r r2 ranges runs l c.0
+lasts_ended law Asked i count marks mark from to written written2 g h sh0 sh sh2 r r2 ranges runs l c = lasts_more law i count from to written written2 g h sh0 sh sh2 r r2 ranges runs l c
+lasts_ended law (Failed kind at) i count marks mark from to written written2 g h sh0 sh sh2 r r2 ranges runs l c = lasts_still count sh0 sh sh2 r r2 l (c.0).shared (c.0).rules
+lasts_ended law ReadFault i count marks mark from to written written2 g h sh0 sh sh2 r r2 ranges runs l c = lasts_still count sh0 sh sh2 r r2 l (c.0).shared (c.0).rules
+lasts_ended law WriteFault i count marks mark from to written written2 g h sh0 sh sh2 r r2 ranges runs l c = lasts_still count sh0 sh sh2 r r2 l (c.0).shared (c.0).rules

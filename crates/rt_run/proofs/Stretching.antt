@@ -1,5 +1,5 @@
 -- A task that runs on: instructions one after another.
-use Rattle.std.proofs.Common.{◌≡◌, ℕ, ◌+◌, ◌-◌, ◌<◌, Bool, true, false, List, [], ◌++◌, ◌||◌, length, map, Option, Some, refl, sym, ap, ◌∙◌, subst, arith, append_assoc, append-nil, length-append, ltb-true}
+use Rattle.std.proofs.Common.{◌≡◌, ℕ, ◌+◌, ◌-◌, ◌*◌, ◌<◌, ◌≤◌, Bool, true, false, List, [], ◌++◌, ◌||◌, length, map, Option, Some, refl, sym, ap, ◌∙◌, subst, arith, append_assoc, append-nil, length-append, ltb-true}
 use Rattle.std.specs.Prelude.{slice_get}
 use Rattle.std.specs.Io.KnownBytes.{Keeps}
 use Rattle.pdp_code.specs.declared.instruction.Reg.TheVariants.{Pc}
@@ -24,7 +24,7 @@ use Rattle.rt_run.specs.Boundaries.{State, Made, Over, Faulted, go_by, instructi
 use Rattle.rt_run.specs.Carrying.{Carries, Faulting, IsCarried}
 use Rattle.rt_run.specs.Picture.{ShowsRunning, others_memory, regs_of}
 use Rattle.rt_run.specs.Runs.{Asks}
-use Rattle.rt_run.specs.Turn.{counts, goes_on as may_go_on, IsReady, IsStopped, Begins, Goes, Halts, Stretches}
+use Rattle.rt_run.specs.Turn.{counts, is_gone, ended_by, goes_on as may_go_on, IsReady, IsStopped, Begins, Counted, Goes, Halts, Stretches}
 use Rattle.rt_run.proofs.Feeding.{gives_nothing, gives_more, gives_still, ahead_first, ahead_then, appends, appends_nothing, appends_still, kept_same}
 use Rattle.rt_run.proofs.Settling.{unticked}
 use Rattle.rt_run.proofs.Reaching.{one_later}
@@ -152,6 +152,30 @@ done_stops (Failed kind at) h image all s i = absurd cc
 done_stops ReadFault h image all s i = absurd cc
 done_stops WriteFault h image all s i = absurd cc
 
+-- what was carried out and asked nobody
+pub gone_counts : (x : Carried) → is_gone x ≡ true → counts x ≡ true
+gone_counts Went e = refl
+gone_counts Served e = absurd cc
+gone_counts (Failed kind at) e = absurd cc
+gone_counts ReadFault e = absurd cc
+gone_counts WriteFault e = absurd cc
+
+-- how an instruction ended by which a stretch ends
+pub ended_so : (x : Carried) (count marks mark : ℕ) → (ended_by x count marks mark).carried ≡ x
+ended_so Went count marks mark = refl
+ended_so Served count marks mark = refl
+ended_so (Failed kind at) count marks mark = refl
+ended_so ReadFault count marks mark = refl
+ended_so WriteFault count marks mark = refl
+
+-- and how many were carried out then
+pub counted_so : (x : Carried) (count marks mark most : ℕ) → is_gone x ≡ false → count < most → marks ≤ 255 * count → mark ≤ 255 → Counted (ended_by x count marks mark) most
+counted_so Went count marks mark most e few m k = absurd cc
+counted_so Served count marks mark most e few m k = record { within = omega (arith, few); marks = omega (arith, m, k); some = λ h. omega arith; full = λ h. absurd cc; fewer = λ h. absurd cc }
+counted_so (Failed kind at) count marks mark most e few m k = record { within = omega (arith, few); marks = m; some = λ h. absurd cc; full = λ h. absurd cc; fewer = λ h. few }
+counted_so ReadFault count marks mark most e few m k = record { within = omega (arith, few); marks = m; some = λ h. absurd cc; full = λ h. absurd cc; fewer = λ h. few }
+counted_so WriteFault count marks mark most e few m k = record { within = omega (arith, few); marks = m; some = λ h. absurd cc; full = λ h. absurd cc; fewer = λ h. few }
+
 -- a task that goes on carried out its last instruction, and has more before it
 pub goes_done : (x : Carried) (count most : ℕ) → may_go_on x count most ≡ true → (counts x ≡ true) × (count < most)
 goes_done Went count most e = (refl, ltb-true count most e)
@@ -218,6 +242,13 @@ module _ (i most count marks : ℕ) (few : count < most) (from mid to : Feed) (w
     gives = gives_still from mid to a.given a.over a.gives (gives_of x i mid to written2 written3 g h sh sh2 r r2 e carried);
     halts = λ image gaps all rest s k ts b ahead. none_more image gaps all s i k most ts g0 sh0 r b runs a.given count marks few g sh written written2 (a.goes image gaps all rest s k ts b ahead) x h sh2 r2 mid to written3 e carried;
   }
+
+  pub way_ended : (x : Carried) (mark : ℕ) → IsCarried x i mid written2 g sh r to written3 h sh2 r2 → mark ≡ mark_of sh.marks (reg g Pc) → Stretches i most (ended_by x count marks mark) from written g0 sh0 r to written3 h sh2 r2
+  way_ended Went mark carried is = way_done Went mark refl carried is
+  way_ended Served mark carried is = way_done Served mark refl carried is
+  way_ended (Failed kind at) mark carried is = way_undone (Failed kind at) refl carried
+  way_ended ReadFault mark carried is = way_undone ReadFault refl carried
+  way_ended WriteFault mark carried is = way_undone WriteFault refl carried
 
   pub way_goes_on : (mark : ℕ) (c : Carries i mid written2 g sh r to written3 h sh2 r2) → r2 ≡ r → mark ≡ mark_of sh.marks (reg g Pc) → IsOnTheWay i most (count + 1) (marks + mark) from written g0 sh0 r to written3 h sh2
   way_goes_on mark c same is = record {

@@ -5,7 +5,7 @@ use Rattle.pdp_code.specs.declared.instruction.Reg.TheVariants.{Pc, R0}
 use Rattle.pdp_core.specs.declared.cpu.Kind.{Kind}
 use Rattle.pdp_core.specs.declared.cpu.Regs.{Regs}
 use Rattle.pdp_core.specs.declared.cpu.Stop.{Stop}
-use Rattle.pdp_core.specs.declared.cpu.Stop.TheVariants.{Went as Done, Trap, Fault}
+use Rattle.pdp_core.specs.declared.cpu.Stop.TheVariants.{Trap, Fault}
 use Rattle.pdp_core.specs.Execute.{reg, with_reg}
 use Rattle.rt_rules.specs.Roster.{Roster}
 use Rattle.rt_tasks.specs.Parts.{Sharing}
@@ -71,20 +71,20 @@ IsWritten (Ok Took) written b written2 = Appends written written2 (b ∷ [])
 IsWritten (Err WriteFault) written b written2 = Keeps written written2
 IsWritten _ written b written2 = ⊥
 
--- what is granted belongs to the TRAP that is next
-abbrev pub IsGranted : Granted → Option ℕ → Type 0
-IsGranted Nothing trap = (trap ≢ Some 1) × (trap ≢ Some 2)
-IsGranted (Gave n) trap = trap ≡ Some 1
-IsGranted Took trap = trap ≡ Some 2
+-- what is granted belongs to the TRAP of this number
+abbrev pub IsGranted : Granted → ℕ → Type 0
+IsGranted Nothing n = (n ≢ 1) × (n ≢ 2)
+IsGranted (Gave v) n = n ≡ 1
+IsGranted Took n = n ≡ 2
 
--- what the console granted the next instruction
-abbrev pub IsAsked : Result Granted Carried → Feed → Option (List ℕ) → Regs → Sharing → Feed → Option (List ℕ) → Type 0
-IsAsked (Ok Nothing) from written g s to written2 = IsGranted Nothing (trap_at s.code (reg g Pc)) × (to ≡ from) × (written2 ≡ written)
-IsAsked (Ok (Gave n)) from written g s to written2 = IsGranted (Gave n) (trap_at s.code (reg g Pc)) × Reads n from to × (written2 ≡ written)
-IsAsked (Ok Took) from written g s to written2 = IsGranted Took (trap_at s.code (reg g Pc)) × (to ≡ from) × Appends written written2 (reg g R0 % 256 ∷ [])
-IsAsked (Err ReadFault) from written g s to written2 = (trap_at s.code (reg g Pc) ≡ Some 1) × Gives from [] false to × (written2 ≡ written)
-IsAsked (Err WriteFault) from written g s to written2 = (trap_at s.code (reg g Pc) ≡ Some 2) × (to ≡ from) × Keeps written written2
-IsAsked _ from written g s to written2 = ⊥
+-- what the console granted TRAP n
+abbrev pub IsAsked : Result Granted Carried → ℕ → Feed → Option (List ℕ) → Regs → Feed → Option (List ℕ) → Type 0
+IsAsked (Ok Nothing) n from written g to written2 = IsGranted Nothing n × (to ≡ from) × (written2 ≡ written)
+IsAsked (Ok (Gave v)) n from written g to written2 = IsGranted (Gave v) n × Reads v from to × (written2 ≡ written)
+IsAsked (Ok Took) n from written g to written2 = IsGranted Took n × (to ≡ from) × Appends written written2 (reg g R0 % 256 ∷ [])
+IsAsked (Err ReadFault) n from written g to written2 = (n ≡ 1) × Gives from [] false to × (written2 ≡ written)
+IsAsked (Err WriteFault) n from written g to written2 = (n ≡ 2) × (to ≡ from) × Keeps written written2
+IsAsked _ n from written g to written2 = ⊥
 
 -- ---- the ways in which an instruction ends
 
@@ -120,20 +120,6 @@ pub record Faulting (kind : Kind) (at : ℕ) (g : Regs) (s : Sharing) (r : Roste
   pub regs : h ≡ g
   pub shared : s2 ≡ s
   pub rules : r2 ≡ r
-
--- how an instruction that wants nothing of the console ended
-abbrev pub IsDone : Carried → ℕ → Regs → Sharing → Roster → Regs → Sharing → Roster → Type 0
-IsDone Went i g s r h s2 r2 = Steps g s Done h s2 × (r2 ≡ r)
-IsDone Served i g s r h s2 r2 = Calling i g s r h s2 r2
-IsDone (Failed kind at) i g s r h s2 r2 = Faulting kind at g s r h s2 r2
-IsDone ReadFault i g s r h s2 r2 = ⊥
-IsDone WriteFault i g s r h s2 r2 = ⊥
-
--- how an instruction ended, for which the console granted this
-abbrev pub IsAdvanced : Carried → Granted → ℕ → Regs → Sharing → Roster → Regs → Sharing → Roster → Type 0
-IsAdvanced x Nothing i g s r h s2 r2 = IsDone x i g s r h s2 r2
-IsAdvanced x (Gave n) i g s r h s2 r2 = (x ≡ Went) × Given n g s h s2 × (r2 ≡ r)
-IsAdvanced x Took i g s r h s2 r2 = (x ≡ Went) × Putting g s h s2 × (r2 ≡ r)
 
 -- a fault of the console, at a TRAP of this number: nothing of the instruction is done
 pub record Refuses (n : ℕ) (g : Regs) (s : Sharing) (r : Roster) (h : Regs) (s2 : Sharing) (r2 : Roster) : Type 0 where

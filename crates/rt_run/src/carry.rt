@@ -4,12 +4,11 @@ ghost use Rattle.rt_words.specs.Causes.{Rose};
 ghost use Rattle.pdp_code.specs.declared.instruction.Reg.TheVariants.{Pc, R0};
 ghost use Rattle.pdp_core.specs.Execute.{reg};
 ghost use Rattle.rt_rules.specs.Rules as rules;
-ghost use Rattle.rt_tasks.specs.Traps.{trap_at};
 ghost use Rattle.rt_run.specs.Inputs.{feed};
-ghost use Rattle.rt_run.specs.Carrying.{IsServed, IsRead, IsWritten, IsAsked, IsGranted, IsServedBy, IsAdvanced, IsCarried};
+ghost use Rattle.rt_run.specs.Carrying.{IsServed, IsRead, IsWritten, IsAsked, IsGranted, IsServedBy, IsCarried};
 
 use crate::service::{Answer, answer_of, give, service_of};
-use pdp_core::{Kind, Stop};
+use pdp_core::{Done, Kind, Stop};
 use rt_outside::{Next, Sink, Source};
 use rt_super::Supervisor;
 use rt_tasks::Running;
@@ -32,7 +31,7 @@ pub enum Carried {
     WriteFault,
 }
 
-/// What the console granted an instruction before it was carried out.
+/// What the console granted a TRAP.
 #[derive(Debug, Clone, Copy)]
 pub enum Granted {
     /// Nothing, and nothing was wanted.
@@ -60,7 +59,6 @@ fn call(running: &mut Running, supervisor: &mut Supervisor, task: u8, number: u8
 }
 
 // The console's next byte, for TRAP 1.
-#[inline(never)]
 fn read<I: Source>(input: &mut I) -> Result<Granted, Carried>
     ensures read { IsRead result (feed (I.left input.old) (I.ended input.old)) (feed (I.left input.new) (I.ended input.new)) }
     ensures failed { IsErr result → Rose (I.faults input.old) (I.faults input.new) }
@@ -74,7 +72,6 @@ fn read<I: Source>(input: &mut I) -> Result<Granted, Carried>
 }
 
 // A byte put on the console, for TRAP 2.
-#[inline(never)]
 fn write<O: Sink>(running: &Running, output: &mut O) -> Result<Granted, Carried>
     ensures written { IsWritten result (O.written output.old) (reg running.now.regs R0 % 256) (O.written output.new) }
     ensures failed { IsErr result → Rose (O.faults output.old) (O.faults output.new) }
@@ -86,22 +83,23 @@ fn write<O: Sink>(running: &Running, output: &mut O) -> Result<Granted, Carried>
     }
 }
 
-// Asks the console for what the next instruction wants of it. Where that fails, nothing is done.
-#[inline(always)]
+// Asks the console for what a TRAP wants of it.
+#[inline(never)]
 fn ask<I: Source, O: Sink>(
     running: &Running,
+    number: u8,
     input: &mut I,
     output: &mut O,
 ) -> Result<Granted, Carried>
-    ensures asked { IsAsked result (feed (I.left input.old) (I.ended input.old)) (O.written output.old) running.now.regs running.now.shared.now (feed (I.left input.new) (I.ended input.new)) (O.written output.new) }
+    ensures asked { IsAsked result number (feed (I.left input.old) (I.ended input.old)) (O.written output.old) running.now.regs (feed (I.left input.new) (I.ended input.new)) (O.written output.new) }
     ensures read_failed { result ≡ Err Carried.ReadFault → Rose (I.faults input.old) (I.faults input.new) }
     ensures write_failed { result ≡ Err Carried.WriteFault → Rose (O.faults output.old) (O.faults output.new) }
     ensures reads_later { I.faults input.old ≤ I.faults input.new }
     ensures writes_later { O.faults output.old ≤ O.faults output.new }
 {
-    match running.next_trap() {
-        Some(1) => read(input),
-        Some(2) => write(running, output),
+    match number {
+        1 => read(input),
+        2 => write(running, output),
         _ => Ok(Granted::Nothing),
     }
 }
@@ -118,7 +116,7 @@ fn serve(
     requires runs { rules.running supervisor.old ≡ Some task }
     requires stamp { supervisor.old.stamp < 2 ^ 63 }
     requires clock { supervisor.old.clock < 2 ^ 32 - 1 }
-    requires granted { IsGranted granted (Some number) }
+    requires granted { IsGranted granted number }
     ensures served { IsServedBy result granted task number supervisor.old running.old.regs supervisor.new running.new.regs }
     ensures shared { running.new.shared.now ≡ running.old.shared.now }
     ensures same_reference { running.new.shared.ghost_name ≡ running.old.shared.ghost_name }
@@ -136,29 +134,8 @@ fn serve(
     }
 }
 
-// One instruction, for which the console granted this.
-#[inline(always)]
-fn advance(
-    running: &mut Running,
-    supervisor: &mut Supervisor,
-    task: u8,
-    granted: Granted,
-) -> Carried
-    requires runs { rules.running supervisor.old ≡ Some task }
-    requires stamp { supervisor.old.stamp < 2 ^ 63 }
-    requires clock { supervisor.old.clock < 2 ^ 32 - 1 }
-    requires granted { IsGranted granted (trap_at running.old.shared.now.code (reg running.old.regs Pc)) }
-    ensures carried { IsAdvanced result granted task running.old.regs running.old.shared.now supervisor.old running.new.regs running.new.shared.now supervisor.new }
-    ensures same_reference { running.new.shared.ghost_name ≡ running.old.shared.ghost_name }
-{
-    match running.step() {
-        Stop::Went => Carried::Went,
-        Stop::Trap(number) => serve(running, supervisor, task, number, granted),
-        Stop::Fault(kind, at) => Carried::Fault(kind, at),
-    }
-}
-
-/// One instruction of the running task, with its service. It takes no memory.
+/// One instruction of the running task, with its service. What stopped it is put into a place that is lent. A TRAP changes the program counter alone, so that its task goes back to it
+/// where the console fails. It takes no memory.
 #[inline(always)]
 pub fn carry_out<I: Source, O: Sink>(
     running: &mut Running,
@@ -166,6 +143,7 @@ pub fn carry_out<I: Source, O: Sink>(
     task: u8,
     input: &mut I,
     output: &mut O,
+    stop: &mut Stop,
 ) -> Carried
     requires runs { rules.running supervisor.old ≡ Some task }
     requires stamp { supervisor.old.stamp < 2 ^ 63 }
@@ -177,8 +155,19 @@ pub fn carry_out<I: Source, O: Sink>(
     ensures writes_later { O.faults output.old ≤ O.faults output.new }
     ensures same_reference { running.new.shared.ghost_name ≡ running.old.shared.ghost_name }
 {
-    match ask(running, input, output) {
-        Ok(granted) => advance(running, supervisor, task, granted),
-        Err(refused) => refused,
+    let at = running.counter();
+    match running.carry_on(stop) {
+        Done::Went => Carried::Went,
+        Done::Stopped => match *stop {
+            Stop::Went => Carried::Went,
+            Stop::Trap(number) => match ask(running, number, input, output) {
+                Ok(granted) => serve(running, supervisor, task, number, granted),
+                Err(refused) => {
+                    running.go_back(at);
+                    refused
+                }
+            },
+            Stop::Fault(kind, address) => Carried::Fault(kind, address),
+        },
     }
 }

@@ -4,9 +4,10 @@ ghost use Rattle.rt_words.specs.Causes.{Rose};
 ghost use Rattle.rt_rules.specs.Roster.{InRanges};
 ghost use Rattle.rt_rules.specs.Rules as rules;
 ghost use Rattle.rt_run.specs.Inputs.{feed};
-ghost use Rattle.rt_run.specs.Turn.{counts, goes_on, Counted, Lasts, Stretches};
+ghost use Rattle.rt_run.specs.Turn.{counts, is_gone, goes_on, ended_by, Counted, Lasts, Stretches};
 
 use crate::carry::{Carried, carry_out};
+use pdp_core::Stop;
 use rt_outside::{Sink, Source};
 use rt_rules::clock_and_stamp_stay_low;
 use rt_super::Supervisor;
@@ -28,13 +29,48 @@ pub fn is_done(carried: Carried) -> bool
     matches!(carried, Carried::Went | Carried::Served)
 }
 
+// Whether it was carried out, and asked nobody.
+#[inline(always)]
+fn has_gone(carried: Carried) -> bool
+    ensures { result ≡ is_gone carried }
+{
+    matches!(carried, Carried::Went)
+}
+
+// The end of a stretch by an instruction that isn't followed by another one: so many came before it, with their marks, and this is its own.
+#[inline(always)]
+fn ended(carried: Carried, count: u32, marks: u64, mark: u64) -> Stretch
+    requires count { count < 4000000000 }
+    requires marks { marks ≤ 255 * count }
+    requires mark { mark ≤ 255 }
+    ensures { result ≡ ended_by carried count marks mark }
+{
+    if is_done(carried) {
+        so_far(carried, count + 1, marks + mark)
+    } else {
+        so_far(carried, count, marks)
+    }
+}
+
+// A stretch of so many instructions, with their marks.
+#[inline(always)]
+fn so_far(carried: Carried, count: u32, marks: u64) -> Stretch
+    ensures { result ≡ record { carried = carried; count = count; marks = marks } }
+{
+    Stretch {
+        carried,
+        count: u64::from(count),
+        marks,
+    }
+}
+
 // Whether the task goes on after so many instructions of at most so many, of which the last one ended so.
 #[inline(always)]
-fn may_go_on(carried: Carried, count: u64, most: u64) -> bool
+fn may_go_on(carried: Carried, count: u32, most: u64) -> bool
     ensures { result ≡ goes_on carried count most }
 {
     match carried {
-        Carried::Went => count < most,
+        Carried::Went => u64::from(count) < most,
         _ => false,
     }
 }
@@ -65,26 +101,19 @@ pub fn run_on<I: Source, O: Sink>(
     ensures same_reference { running.new.shared.ghost_name ≡ running.old.shared.ghost_name }
 {
     clock_and_stamp_stay_low();
-    let mut count = 0;
+    let mut stop = Stop::Went;
+    let mut count: u32 = 0;
     let mut marks = 0;
     'instructions: loop {
         let mark = u64::from(running.mark());
-        let carried = carry_out(running, supervisor, task, input, output);
-        if !is_done(carried) {
-            return Stretch {
-                carried,
-                count,
-                marks,
-            };
+        let carried = carry_out(running, supervisor, task, input, output, &mut stop);
+        if !has_gone(carried) {
+            return ended(carried, count, marks, mark);
         }
         count += 1;
         marks += mark;
         if !may_go_on(carried, count, most) {
-            return Stretch {
-                carried,
-                count,
-                marks,
-            };
+            return so_far(carried, count, marks);
         }
     }
 }

@@ -4,7 +4,7 @@
 //! - [`Parked`]: a task that doesn't run, with its registers and its [`StackBrick`]. [`dispatch`] makes it [`Running`], which
 //!   alone may use what all share; [`park`] and [`finish`] end that, and hand all parts on. None is copied.
 //! - [`Running::step`]: one instruction over the one memory that the parts of all tasks make up. Nothing that belongs to another
-//!   task changes by it.
+//!   task changes by it. [`Running::carry_on`] tells its stop beside.
 //!
 //! `specs/Parts.antt` has what contracts see of these types, and `specs/Whole.antt` the one memory.
 #![tactic(auto)]

@@ -1,16 +1,17 @@
 ghost use Rattle.std.specs.Prelude.{◌≡◌, ◌-◌, ◌≤◌, length, IfOk};
 ghost use Rattle.pdp_code.specs.declared.instruction.Reg.TheVariants.{R0, R1, Sp, Pc};
 ghost use Rattle.pdp_core.specs.Execute.{reg, with_reg};
+ghost use Rattle.pdp_core.specs.Told.{stop_of};
 ghost use Rattle.rt_tasks.specs.Steps.{Steps, KeepsAtFault, AsksByTrap, AnswersTrap};
 ghost use Rattle.rt_tasks.specs.Parts.{LieInOrder};
 ghost use Rattle.rt_tasks.specs.Start.{IsStart};
-ghost use Rattle.rt_tasks.specs.Traps.{mark_of, trap_at};
+ghost use Rattle.rt_tasks.specs.Traps.{mark_of};
 
-use crate::code::{mark_at, trap};
+use crate::code::mark_at;
 use crate::memory::StackBrick;
 use crate::shared::Shared;
 use crate::start::{own_bytes, places, registers};
-use pdp_core::{Protection, Regs, Stop, step};
+use pdp_core::{Done, Protection, Regs, Stop, carry_on};
 use rt_image::Image;
 use rt_words::Memory;
 use std::alloc::Global;
@@ -109,8 +110,24 @@ impl Running<'_> {
         ensures answers { AnswersTrap self.old.regs self.old.shared.now result }
         ensures same_reference { self.new.shared.ghost_name ≡ self.old.shared.ghost_name }
     {
+        let mut stop = Stop::Went;
+        match self.carry_on(&mut stop) {
+            Done::Went => Stop::Went,
+            Done::Stopped => stop,
+        }
+    }
+
+    /// The same, with what stopped it told in a place that is lent, which is left as it was where it went on.
+    #[inline(always)]
+    pub fn carry_on(&mut self, stop: &mut Stop) -> Done
+        ensures done { Steps self.old.regs self.old.shared.now (stop_of result stop.new) self.new.regs self.new.shared.now }
+        ensures fault { KeepsAtFault self.old.regs self.old.shared.now (stop_of result stop.new) self.new.regs self.new.shared.now }
+        ensures asks { AsksByTrap self.old.regs self.old.shared.now (stop_of result stop.new) self.new.regs self.new.shared.now }
+        ensures answers { AnswersTrap self.old.regs self.old.shared.now (stop_of result stop.new) }
+        ensures same_reference { self.new.shared.ghost_name ≡ self.old.shared.ghost_name }
+    {
         let shared = &mut *self.shared;
-        step(&mut self.regs, &mut shared.memory)
+        carry_on(&mut self.regs, &mut shared.memory, stop)
     }
 
     /// The mark of the code word at the program counter; 0 where it is odd or outside the code.
@@ -122,13 +139,21 @@ impl Running<'_> {
         mark_at(shared.marks.as_slice(), self.regs.r[7])
     }
 
-    /// The number of the TRAP that stands at the program counter, whichever it is; None where none does.
+    /// The program counter.
     #[inline(always)]
-    pub fn next_trap(&self) -> Option<u8>
-        ensures { result ≡ trap_at self.now.shared.now.code (reg self.now.regs Pc) }
+    pub fn counter(&self) -> u16
+        ensures { result ≡ reg self.now.regs Pc }
     {
-        let shared = &*self.shared;
-        trap(&shared.memory.code, self.regs.r[7])
+        self.regs.r[7]
+    }
+
+    /// Sets the program counter, and no other register nor flag.
+    pub fn go_back(&mut self, counter: u16)
+        ensures regs { self.new.regs ≡ with_reg self.old.regs Pc counter }
+        ensures shared { self.new.shared.now ≡ self.old.shared.now }
+        ensures same_reference { self.new.shared.ghost_name ≡ self.old.shared.ghost_name }
+    {
+        self.regs.r[7] = counter;
     }
 
     /// R0.
