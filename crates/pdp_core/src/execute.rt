@@ -705,7 +705,7 @@ fn attempt<B: Bus>(bus: &mut B, regs: &mut Regs, stop: &mut Stop) -> Done
 }
 
 /// One instruction: registers, flags and memory are changed as the instruction table says, or, on a fault, not at all. It
-/// takes no memory of the host. What stopped it is told in a place that is lent, which is left as it was where it went on.
+/// takes no memory of the host. What stopped it is told in a place that is lent; where it went on, that says nothing.
 #[inline(always)]
 pub fn carry_on<B: Bus>(regs: &mut Regs, bus: &mut B, stop: &mut Stop) -> Done
     ensures done { execute (B.world bus.old) regs.old ≡ record { stop = stop_of result stop.new; regs = regs.new; world = B.world bus.new } }

@@ -117,7 +117,7 @@ impl Running<'_> {
         }
     }
 
-    /// The same, with what stopped it told in a place that is lent, which is left as it was where it went on.
+    /// The same, with what stopped it told in a place that is lent; where it went on, that says nothing.
     #[inline(always)]
     pub fn carry_on(&mut self, stop: &mut Stop) -> Done
         ensures done { Steps self.old.regs self.old.shared.now (stop_of result stop.new) self.new.regs self.new.shared.now }
