@@ -1,5 +1,5 @@
 -- The ways to use the memory.
-use Rattle.std.proofs.Common.{◌≡◌, ℕ, ◌+◌, ◌-◌, ◌*◌, ◌/◌, ◌%◌, ◌<◌, ◌≤◌, true, false, List, [], ◌∷◌, length, get_or, set, refl, sym, ap, ◌∙◌, inl, inr, arith, lt-ltb}
+use Rattle.std.proofs.Common.{◌≡◌, ℕ, ◌+◌, ◌-◌, ◌/◌, ◌%◌, ◌<◌, ◌≤◌, true, false, List, ◌∷◌, length, get_or, set, refl, sym, ap, ◌∙◌, inl, inr, arith, lt-ltb}
 use Rattle.std.specs.Prelude.{◌⊎◌, ◌==◌, slice_index, slice_set, Ok}
 use Rattle.std.proofs.Math.Path.{fun_ext}
 use Rattle.std.proofs.lemmas.List.{get_or-set_same, get_or-set_other, length-set, get_or_read}
@@ -11,11 +11,6 @@ use Rattle.rt_tasks.specs.Parts.{LieInOrder, EndAt}
 use Rattle.rt_tasks.specs.Whole.{code_byte, memory_of}
 use Rattle.rt_tasks.specs.Ledger.{ledger}
 use Rattle.rt_tasks.proofs.Places.{at_code, at_data, at_own, same_byte, data_usable, own_usable, use_of_word, use_of_byte}
-
--- the word of two bytes
-pub word_of : (bs : List ℕ) (a : ℕ) → get_or bs a 0 < 256 → get_or bs (a + 1) 0 < 256 → word_at (λ x. slice_index bs x) a ≡ get_or bs a 0 + 256 * get_or bs (a + 1) 0
-unfolding word_at
-word_of bs a p q = omega arith
 
 -- the word at an address is that of two bytes elsewhere
 word_from : (m : ℕ → ℕ) (bs : List ℕ) (a k : ℕ) → m a ≡ slice_index bs k → m (a + 1) ≡ slice_index bs (k + 1) → word_at m a ≡ word_at (λ x. slice_index bs x) k
@@ -66,28 +61,28 @@ pub two_length : (bs : List ℕ) (k v : ℕ) → length (two bs k v) ≡ length 
 two_length bs k v = length-set (set bs k (v % 256)) (k + 1) (v / 256) ∙ length-set bs k (v % 256)
 
 -- the ledger tells the length of a task's own bytes alone
-same_ledger : (own own2 : List ℕ) (p : Protection) → length own2 ≡ length own → ledger own p ≡ ledger own2 p
-same_ledger own own2 p e = ap (λ (n : ℕ). λ (a : ℕ). slice_index (p.code_end ∷ p.data_end ∷ p.block ∷ p.brick ∷ p.brick_end ∷ n ∷ []) (a - 65536)) (sym e)
+same_ledger : (marks own own2 : List ℕ) (p : Protection) → length own2 ≡ length own → ledger marks own p ≡ ledger marks own2 p
+same_ledger marks own own2 p e = ap (λ (n : ℕ). λ (a : ℕ). slice_index (p.code_end ∷ p.data_end ∷ p.block ∷ p.brick ∷ p.brick_end ∷ n ∷ marks) (a - 65536)) (sym e)
 
-module _ (code bytes own : List ℕ) (p : Protection) (e : EndAt code bytes p) (o : LieInOrder own p) where
+module _ (code bytes own marks : List ℕ) (p : Protection) (e : EndAt code bytes p) (o : LieInOrder own p) where
   low_block : p.block ≤ 57344
   low_block = omega (arith, o.all_own)
 
   -- a word of the code
-  pub word_fetched : (a i x : ℕ) → (a % 2 ≡ 1 → ⊥) → i ≡ a / 2 → i < length code → x ≡ get_or code i x → x < 65536 → Ok x ≡ fetched (protected p (memory_of code bytes own p (ledger own p))) a
+  pub word_fetched : (a i x : ℕ) → (a % 2 ≡ 1 → ⊥) → i ≡ a / 2 → i < length code → x ≡ get_or code i x → x < 65536 → Ok x ≡ fetched (protected p (memory_of code bytes own p (ledger marks own p))) a
   word_fetched a i x n half h g k =
       let first : a < p.code_end = omega (arith, e.0) in
       let second : a + 1 < p.code_end = omega (arith, e.0) in
       let here : slice_index code (a / 2) ≡ x = ap (slice_index code) (sym half) ∙ sym (get_or_read code i x h g 0) in
       rw (use_of_word (fetchable p) a n (omega (arith, low_block, o.code, o.block)) (lt-ltb a p.code_end first) (lt-ltb (a + 1) p.code_end second))
-      (ap Ok (sym (code_word code (memory_of code bytes own p (ledger own p)) a x n (at_code code bytes own p (ledger own p) a first) (at_code code bytes own p (ledger own p) (a + 1) second) here k)))
+      (ap Ok (sym (code_word code (memory_of code bytes own p (ledger marks own p)) a x n (at_code code bytes own p (ledger marks own p) a first) (at_code code bytes own p (ledger marks own p) (a + 1) second) here k)))
 
   module _ (a k : ℕ) (at : p.code_end + k ≡ a) where
     ends : k < length bytes → a < p.data_end
     ends h = omega (arith, e.0, e.1)
 
-    on_data : k < length bytes → (bytes2 : List ℕ) → memory_of code bytes2 own p (ledger own p) a ≡ slice_index bytes2 k
-    on_data h bytes2 = at_data code bytes2 own p (ledger own p) a (omega arith) (ends h) ∙ ap (slice_index bytes2) (omega arith)
+    on_data : k < length bytes → (bytes2 : List ℕ) → memory_of code bytes2 own p (ledger marks own p) a ≡ slice_index bytes2 k
+    on_data h bytes2 = at_data code bytes2 own p (ledger marks own p) a (omega arith) (ends h) ∙ ap (slice_index bytes2) (omega arith)
 
     data_word_use : (a % 2 ≡ 1 → ⊥) → k < length bytes → word_use (usable p) a ≡ Ok tt
     data_word_use n h =
@@ -115,63 +110,56 @@ module _ (code bytes own : List ℕ) (p : Protection) (e : EndAt code bytes p) (
     own_byte_use : k < length own → byte_use (usable p) a ≡ Ok tt
     own_byte_use h = use_of_byte (usable p) a (own_low h) (own_usable own p a o (omega arith) (own_ends h))
 
-  -- the second byte of a word stands in the same part
-  pub data_second : (a k : ℕ) → p.code_end + k ≡ a → k < length bytes → (a % 2 ≡ 1 → ⊥) → k + 1 < length bytes
-  data_second a k at h n = omega (arith, e.0, e.1, o.even_data)
-
-  pub own_second : (a k : ℕ) → p.block + k ≡ a → k < length own → (a % 2 ≡ 1 → ⊥) → k + 1 < length own
-  own_second a k at h n = omega (arith, o.all_own, o.even_end)
-
   -- the data
   module _ (a k : ℕ) (at : p.code_end + k ≡ a) (h : k < length bytes) where
-    pub data_word_read : (a % 2 ≡ 1 → ⊥) → k + 1 < length bytes → Ok (word_at (λ x. slice_index bytes x) k) ≡ word_read (protected p (memory_of code bytes own p (ledger own p))) a
+    pub data_word_read : (a % 2 ≡ 1 → ⊥) → k + 1 < length bytes → Ok (word_at (λ x. slice_index bytes x) k) ≡ word_read (protected p (memory_of code bytes own p (ledger marks own p))) a
     data_word_read n j =
         rw (data_word_use a k at n h)
-        (ap Ok (sym (word_from (memory_of code bytes own p (ledger own p)) bytes a k (on_data a k at h bytes) (on_data (a + 1) (k + 1) (omega arith) j bytes))))
+        (ap Ok (sym (word_from (memory_of code bytes own p (ledger marks own p)) bytes a k (on_data a k at h bytes) (on_data (a + 1) (k + 1) (omega arith) j bytes))))
 
-    pub data_byte_read : (x : ℕ) → x ≡ get_or bytes k x → x < 256 → Ok x ≡ byte_read (protected p (memory_of code bytes own p (ledger own p))) a
+    pub data_byte_read : (x : ℕ) → x ≡ get_or bytes k x → x < 256 → Ok x ≡ byte_read (protected p (memory_of code bytes own p (ledger marks own p))) a
     data_byte_read x g j =
         let here : x ≡ get_or bytes k 0 = get_or_read bytes k x h g 0 in
         rw (data_byte_use a k at h, on_data a k at h bytes) (ap Ok (omega (arith, here)))
 
-    pub data_word_written : (v : ℕ) → (a % 2 ≡ 1 → ⊥) → k + 1 < length bytes → word_written (protected p (memory_of code bytes own p (ledger own p))) a v ≡ Ok (protected p (memory_of code (two bytes k v) own p (ledger own p)))
+    pub data_word_written : (v : ℕ) → (a % 2 ≡ 1 → ⊥) → k + 1 < length bytes → word_written (protected p (memory_of code bytes own p (ledger marks own p))) a v ≡ Ok (protected p (memory_of code (two bytes k v) own p (ledger marks own p)))
     data_word_written v n j =
         rw (data_word_use a k at n h)
-        (ap (λ (m : ℕ → ℕ). Ok (protected p m)) (put_two (memory_of code bytes own p (ledger own p)) (memory_of code (two bytes k v) own p (ledger own p)) a v
+        (ap (λ (m : ℕ → ℕ). Ok (protected p m)) (put_two (memory_of code bytes own p (ledger marks own p)) (memory_of code (two bytes k v) own p (ledger marks own p)) a v
         (on_data a k at h (two bytes k v) ∙ two_low bytes k v j)
         (on_data (a + 1) (k + 1) (omega arith) j (two bytes k v) ∙ two_high bytes k v j)
-        (λ x n1 n2. same_byte code bytes own (two bytes k v) own p (ledger own p) (ledger own p) x (λ l u. two_other bytes k v (x - p.code_end) (λ q. n1 (omega arith)) (λ q. n2 (omega arith))) (λ l u. refl) refl)))
+        (λ x n1 n2. same_byte code bytes own (two bytes k v) own p (ledger marks own p) (ledger marks own p) x (λ l u. two_other bytes k v (x - p.code_end) (λ q. n1 (omega arith)) (λ q. n2 (omega arith))) (λ l u. refl) refl)))
 
-    pub data_byte_written : (v : ℕ) → byte_written (protected p (memory_of code bytes own p (ledger own p))) a v ≡ Ok (protected p (memory_of code (slice_set bytes k v) own p (ledger own p)))
+    pub data_byte_written : (v : ℕ) → byte_written (protected p (memory_of code bytes own p (ledger marks own p))) a v ≡ Ok (protected p (memory_of code (slice_set bytes k v) own p (ledger marks own p)))
     data_byte_written v =
         rw (data_byte_use a k at h)
-        (ap (λ (m : ℕ → ℕ). Ok (protected p m)) (put_one (memory_of code bytes own p (ledger own p)) (memory_of code (slice_set bytes k v) own p (ledger own p)) a v
+        (ap (λ (m : ℕ → ℕ). Ok (protected p m)) (put_one (memory_of code bytes own p (ledger marks own p)) (memory_of code (slice_set bytes k v) own p (ledger marks own p)) a v
         (on_data a k at h (slice_set bytes k v) ∙ get_or-set_same bytes k v 0 h)
-        (λ x n1. same_byte code bytes own (slice_set bytes k v) own p (ledger own p) (ledger own p) x (λ l u. sym (get_or-set_other bytes k (x - p.code_end) v 0 (λ q. n1 (omega arith)))) (λ l u. refl) refl)))
+        (λ x n1. same_byte code bytes own (slice_set bytes k v) own p (ledger marks own p) (ledger marks own p) x (λ l u. sym (get_or-set_other bytes k (x - p.code_end) v 0 (λ q. n1 (omega arith)))) (λ l u. refl) refl)))
 
   -- the block and the brick
   module _ (a k : ℕ) (at : p.block + k ≡ a) (h : k < length own) where
-    pub own_word_read : (a % 2 ≡ 1 → ⊥) → k + 1 < length own → Ok (word_at (λ x. slice_index own x) k) ≡ word_read (protected p (memory_of code bytes own p (ledger own p))) a
+    pub own_word_read : (a % 2 ≡ 1 → ⊥) → k + 1 < length own → Ok (word_at (λ x. slice_index own x) k) ≡ word_read (protected p (memory_of code bytes own p (ledger marks own p))) a
     own_word_read n j =
         rw (own_word_use a k at n h)
-        (ap Ok (sym (word_from (memory_of code bytes own p (ledger own p)) own a k (on_own a k at h own (ledger own p)) (on_own (a + 1) (k + 1) (omega arith) j own (ledger own p)))))
+        (ap Ok (sym (word_from (memory_of code bytes own p (ledger marks own p)) own a k (on_own a k at h own (ledger marks own p)) (on_own (a + 1) (k + 1) (omega arith) j own (ledger marks own p)))))
 
-    pub own_byte_read : (x : ℕ) → x ≡ get_or own k x → x < 256 → Ok x ≡ byte_read (protected p (memory_of code bytes own p (ledger own p))) a
+    pub own_byte_read : (x : ℕ) → x ≡ get_or own k x → x < 256 → Ok x ≡ byte_read (protected p (memory_of code bytes own p (ledger marks own p))) a
     own_byte_read x g j =
         let here : x ≡ get_or own k 0 = get_or_read own k x h g 0 in
-        rw (own_byte_use a k at h, on_own a k at h own (ledger own p)) (ap Ok (omega (arith, here)))
+        rw (own_byte_use a k at h, on_own a k at h own (ledger marks own p)) (ap Ok (omega (arith, here)))
 
-    pub own_word_written : (v : ℕ) → (a % 2 ≡ 1 → ⊥) → k + 1 < length own → word_written (protected p (memory_of code bytes own p (ledger own p))) a v ≡ Ok (protected p (memory_of code bytes (two own k v) p (ledger (two own k v) p)))
+    pub own_word_written : (v : ℕ) → (a % 2 ≡ 1 → ⊥) → k + 1 < length own → word_written (protected p (memory_of code bytes own p (ledger marks own p))) a v ≡ Ok (protected p (memory_of code bytes (two own k v) p (ledger marks (two own k v) p)))
     own_word_written v n j =
         rw (own_word_use a k at n h)
-        (ap (λ (m : ℕ → ℕ). Ok (protected p m)) (put_two (memory_of code bytes own p (ledger own p)) (memory_of code bytes (two own k v) p (ledger (two own k v) p)) a v
-        (on_own a k at h (two own k v) (ledger (two own k v) p) ∙ two_low own k v j)
-        (on_own (a + 1) (k + 1) (omega arith) j (two own k v) (ledger (two own k v) p) ∙ two_high own k v j)
-        (λ x n1 n2. same_byte code bytes own bytes (two own k v) p (ledger own p) (ledger (two own k v) p) x (λ l u. refl) (λ l u. two_other own k v (x - p.block) (λ q. n1 (omega arith)) (λ q. n2 (omega arith))) (ap (λ (f : ℕ → ℕ). f x) (same_ledger own (two own k v) p (two_length own k v))))))
+        (ap (λ (m : ℕ → ℕ). Ok (protected p m)) (put_two (memory_of code bytes own p (ledger marks own p)) (memory_of code bytes (two own k v) p (ledger marks (two own k v) p)) a v
+        (on_own a k at h (two own k v) (ledger marks (two own k v) p) ∙ two_low own k v j)
+        (on_own (a + 1) (k + 1) (omega arith) j (two own k v) (ledger marks (two own k v) p) ∙ two_high own k v j)
+        (λ x n1 n2. same_byte code bytes own bytes (two own k v) p (ledger marks own p) (ledger marks (two own k v) p) x (λ l u. refl) (λ l u. two_other own k v (x - p.block) (λ q. n1 (omega arith)) (λ q. n2 (omega arith))) (ap (λ (f : ℕ → ℕ). f x) (same_ledger marks own (two own k v) p (two_length own k v))))))
 
-    pub own_byte_written : (v : ℕ) → byte_written (protected p (memory_of code bytes own p (ledger own p))) a v ≡ Ok (protected p (memory_of code bytes (slice_set own k v) p (ledger (slice_set own k v) p)))
+    pub own_byte_written : (v : ℕ) → byte_written (protected p (memory_of code bytes own p (ledger marks own p))) a v ≡ Ok (protected p (memory_of code bytes (slice_set own k v) p (ledger marks (slice_set own k v) p)))
     own_byte_written v =
         rw (own_byte_use a k at h)
-        (ap (λ (m : ℕ → ℕ). Ok (protected p m)) (put_one (memory_of code bytes own p (ledger own p)) (memory_of code bytes (slice_set own k v) p (ledger (slice_set own k v) p)) a v
-        (on_own a k at h (slice_set own k v) (ledger (slice_set own k v) p) ∙ get_or-set_same own k v 0 h)
-        (λ x n1. same_byte code bytes own bytes (slice_set own k v) p (ledger own p) (ledger (slice_set own k v) p) x (λ l u. refl) (λ l u. sym (get_or-set_other own k (x - p.block) v 0 (λ q. n1 (omega arith)))) (ap (λ (f : ℕ → ℕ). f x) (same_ledger own (slice_set own k v) p (length-set own k v))))))
+        (ap (λ (m : ℕ → ℕ). Ok (protected p m)) (put_one (memory_of code bytes own p (ledger marks own p)) (memory_of code bytes (slice_set own k v) p (ledger marks (slice_set own k v) p)) a v
+        (on_own a k at h (slice_set own k v) (ledger marks (slice_set own k v) p) ∙ get_or-set_same own k v 0 h)
+        (λ x n1. same_byte code bytes own bytes (slice_set own k v) p (ledger marks own p) (ledger marks (slice_set own k v) p) x (λ l u. refl) (λ l u. sym (get_or-set_other own k (x - p.block) v 0 (λ q. n1 (omega arith)))) (ap (λ (f : ℕ → ℕ). f x) (same_ledger marks own (slice_set own k v) p (length-set own k v))))))

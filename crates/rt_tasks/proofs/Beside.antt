@@ -1,5 +1,5 @@
 -- The parts at the start are the memory of the image.
-use Rattle.std.proofs.Common.{◌≡◌, ℕ, zero, suc, ◌+◌, ◌-◌, ◌*◌, ◌/◌, ◌%◌, ◌<◌, ◌≤◌, Bool, true, false, nat_lt, if◌then◌else◌, List, [], ◌∷◌, ◌++◌, length, get_or, Some, refl, sym, ap, ◌∙◌, arith, ltb-true, ltb-false}
+use Rattle.std.proofs.Common.{◌≡◌, ℕ, zero, suc, ◌+◌, ◌-◌, ◌*◌, ◌<◌, ◌≤◌, Bool, true, false, nat_lt, if◌then◌else◌, List, [], ◌∷◌, ◌++◌, length, get_or, Some, refl, sym, ap, ◌∙◌, arith, ltb-true, ltb-false}
 use Rattle.std.specs.Prelude.{slice_get, slice_index}
 use Rattle.std.proofs.lemmas.List.{get_or_append_left, get_or-append_right}
 use Rattle.pdp_core.specs.Protection.{within}
@@ -11,18 +11,9 @@ use Rattle.rt_tasks.specs.Parts.{Sharing, with_task}
 use Rattle.rt_tasks.specs.Start.{start_sharing, start_task}
 use Rattle.rt_tasks.specs.Whole.{code_byte, memory_of, whole}
 use Rattle.rt_tasks.specs.Laws.{LieSideBySide}
-use Rattle.rt_tasks.proofs.Starts.{length-words_bytes, long}
+use Rattle.rt_tasks.proofs.Words.{length-words_bytes, byte_of_words}
+use Rattle.rt_tasks.proofs.Starts.{long}
 use Rattle.rt_tasks.proofs.Steps.{inside}
-
--- a byte of words
-byte_of_words : (ws : List ℕ) (a : ℕ) → a < 2 * length ws → get_or (words_bytes ws) a 0 ≡ code_byte ws a
-byte_of_words [] a h = absurd (omega arith)
-byte_of_words (w ∷ ws) zero h = refl
-byte_of_words (w ∷ ws) (suc zero) h = refl
-byte_of_words (w ∷ ws) (suc (suc a)) h =
-    let half : (suc (suc a)) / 2 ≡ suc (a / 2) = omega arith in
-    let same : (suc (suc a)) % 2 ≡ a % 2 = omega arith in
-    byte_of_words ws a (omega arith) ∙ sym (rw (half, same) refl)
 
 -- the bytes of task n, where the blocks begin at an address
 task_byte : (i : ImageParts) → HasImageRanges i → (ts : List ImageTask) → ((k : ℕ) (u : ImageTask) → slice_get ts k ≡ Some u → length (task_bytes u) ≡ 16 + 2 * u.stack) → (n start : ℕ) (t : ImageTask) → slice_get ts n ≡ Some t → (a : ℕ) → block_from ts n start ≤ a → a < block_from ts n start + task_size t → (start ≤ block_from ts n start) × (get_or (tasks_bytes ts) (a - start) 0 ≡ get_or (task_bytes t) (a - block_from ts n start) 0)

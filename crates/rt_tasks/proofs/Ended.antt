@@ -26,7 +26,7 @@ use Rattle.rt_tasks.specs.Steps.{Steps, KeepsAtFault, AsksByTrap, AnswersTrap}
 use Rattle.rt_tasks.proofs.Places.{at_code, at_data, at_own}
 use Rattle.rt_tasks.proofs.Accesses.{code_word, word_fetched}
 use Rattle.rt_tasks.proofs.Alike.{Asked, Faulted, ends_so}
-use Rattle.rt_tasks.proofs.Steps.{same_data_length, same_own_length, same_code, stepped, same_places, and_right}
+use Rattle.rt_tasks.proofs.Steps.{same_data_length, same_own_length, same_code, stepped, same_places, same_marks, and_right}
 
 abbrev sharing : List ℕ → List ℕ → List ℕ → List ℕ → Protection → Sharing
 sharing code marks bytes own p = record { code = code; marks = marks; bytes = bytes; own = own; places = p }
@@ -44,7 +44,7 @@ fetch_by m f a word false false y d e h q = absurd cc
 
 module _ (code bytes own marks : List ℕ) (p : Protection) (words : (k : ℕ) → slice_index code k < 65536) (e : EndAt code bytes p) (o : LieInOrder own p) where
   abbrev M : ℕ → ℕ
-  M = memory_of code bytes own p (ledger own p)
+  M = memory_of code bytes own p (ledger marks own p)
 
   abbrev W : World
   W = protected p M
@@ -57,7 +57,7 @@ module _ (code bytes own marks : List ℕ) (p : Protection) (words : (k : ℕ) �
       let even : (a % 2 == 0) ≡ true = grind (arith, nat_tests) in
       let second : a + 1 < p.code_end = ltb-true (a + 1) p.code_end (and_right (nat_lt (a + 1) 57344) (nat_lt (a + 1) p.code_end) q.1) in
       let place : a / 2 < length code = omega (arith, e.0, second) in
-      let here : word_at M a ≡ get_or code (a / 2) 0 = code_word code M a (get_or code (a / 2) 0) odd (at_code code bytes own p (ledger own p) a (omega (arith, second))) (at_code code bytes own p (ledger own p) (a + 1) second) refl (words (a / 2)) in
+      let here : word_at M a ≡ get_or code (a / 2) 0 = code_word code M a (get_or code (a / 2) 0) odd (at_code code bytes own p (ledger marks own p) a (omega (arith, second))) (at_code code bytes own p (ledger marks own p) (a + 1) second) refl (words (a / 2)) in
       let same : get_or code (a / 2) 0 ≡ word = sym here ∙ q.2 in
       rw (even, slice_get-get_or code (a / 2) 0 place, same, f) refl
 
@@ -65,7 +65,7 @@ module _ (code bytes own marks : List ℕ) (p : Protection) (words : (k : ℕ) �
   trap_reads a w n even h place =
       let x : w ≡ get_or code (a / 2) w = sym (get_or_from_slice_get code (a / 2) w w h) in
       let low : w < 65536 = subst (λ (y : ℕ). y < 65536) (get_or_from_slice_get code (a / 2) w 0 h) (words (a / 2)) in
-      sym (ap of_memory (word_fetched code bytes own p e o a (a / 2) w (λ r. absurd (omega arith)) refl place x low))
+      sym (ap of_memory (word_fetched code bytes own marks p e o a (a / 2) w (λ r. absurd (omega arith)) refl place x low))
 
   -- the TRAP that stands in the code is fetched
   trap_found : (a n : ℕ) → trap_at code a ≡ Some n → (w : ℕ) × (core.fetch W a ≡ Ok w) × (first_of w ≡ Some (Trap n))
@@ -85,21 +85,21 @@ module _ (code bytes own marks : List ℕ) (p : Protection) (words : (k : ℕ) �
       trap_is (Some (Trap k)) d = cc
       trap_is (Some i) d = absurd cc
 
-  module _ (code2 bytes2 own2 : List ℕ) (e2 : EndAt code2 bytes2 p) (o2 : LieInOrder own2 p) (g g2 : Regs) (stop : Stop) (done : execute (protected p (memory_of code bytes own p (ledger own p))) g ≡ record { stop = stop; regs = g2; world = protected p (memory_of code2 bytes2 own2 p (ledger own2 p)) }) where
+  module _ (code2 bytes2 own2 marks2 : List ℕ) (marks_same : marks2 ≡ marks) (e2 : EndAt code2 bytes2 p) (o2 : LieInOrder own2 p) (g g2 : Regs) (stop : Stop) (done : execute (protected p (memory_of code bytes own p (ledger marks own p))) g ≡ record { stop = stop; regs = g2; world = protected p (memory_of code2 bytes2 own2 p (ledger marks2 own2 p)) }) where
     data_length : length bytes2 ≡ length bytes
-    data_length = same_data_length code bytes own p e o code2 bytes2 own2 e2 o2 g g2 stop done
+    data_length = same_data_length code bytes own marks p e o code2 bytes2 own2 marks2 e2 o2 g g2 stop done
 
     own_length : length own2 ≡ length own
-    own_length = same_own_length code bytes own p e o code2 bytes2 own2 e2 o2 g g2 stop done
+    own_length = same_own_length code bytes own marks p e o code2 bytes2 own2 marks2 e2 o2 g g2 stop done
 
     code_same : code2 ≡ code
-    code_same = same_code code bytes own p e o code2 bytes2 own2 e2 o2 g g2 stop done
+    code_same = same_code code bytes own marks p e o code2 bytes2 own2 marks2 e2 o2 g g2 stop done
 
-    steps : Steps g (sharing code marks bytes own p) stop g2 (sharing code2 marks bytes2 own2 p)
+    steps : Steps g (sharing code marks bytes own p) stop g2 (sharing code2 marks2 bytes2 own2 p)
     steps = record {
-      executed = λ others. stepped code bytes own p e o code2 bytes2 own2 e2 o2 g g2 stop done others;
+      executed = λ others. stepped code bytes own marks p e o code2 bytes2 own2 marks2 e2 o2 g g2 stop done others;
       code = code_same;
-      marks = refl;
+      marks = marks_same;
       places = refl;
       bytes = data_length;
       own = own_length;
@@ -112,12 +112,12 @@ module _ (code bytes own marks : List ℕ) (p : Protection) (words : (k : ℕ) �
     goes = ap (λ (x : Outcome). x.regs) done
 
     -- where the memory is the same its parts are
-    same_parts : (execute W g).world ≡ W → sharing code2 marks bytes2 own2 p ≡ sharing code marks bytes own p
+    same_parts : (execute W g).world ≡ W → sharing code2 marks2 bytes2 own2 p ≡ sharing code marks bytes own p
     same_parts h =
-        let same : (a : ℕ) → memory_of code2 bytes2 own2 p (ledger own2 p) a ≡ memory_of code bytes own p (ledger own p) a = λ a. sym (ap (λ (x : Outcome). x.world.bytes a) done) ∙ ap (λ (x : World). x.bytes a) h in
-        let data_same : bytes2 ≡ bytes = same_number_lists bytes2 bytes data_length (λ k l. data_byte code2 bytes2 own2 (ledger own2 p) k (omega (arith, data_length, l)) ∙ same (p.code_end + k) ∙ sym (data_byte code bytes own (ledger own p) k (omega (arith, data_length, l)))) in
-        let own_same : own2 ≡ own = same_number_lists own2 own own_length (λ k l. own_byte code2 bytes2 own2 (ledger own2 p) k (omega (arith, own_length, l)) ∙ same (p.block + k) ∙ sym (own_byte code bytes own (ledger own p) k (omega (arith, own_length, l)))) in
-        rw (code_same, data_same, own_same) refl
+        let same : (a : ℕ) → memory_of code2 bytes2 own2 p (ledger marks2 own2 p) a ≡ memory_of code bytes own p (ledger marks own p) a = λ a. sym (ap (λ (x : Outcome). x.world.bytes a) done) ∙ ap (λ (x : World). x.bytes a) h in
+        let data_same : bytes2 ≡ bytes = same_number_lists bytes2 bytes data_length (λ k l. data_byte code2 bytes2 own2 (ledger marks2 own2 p) k (omega (arith, data_length, l)) ∙ same (p.code_end + k) ∙ sym (data_byte code bytes own (ledger marks own p) k (omega (arith, data_length, l)))) in
+        let own_same : own2 ≡ own = same_number_lists own2 own own_length (λ k l. own_byte code2 bytes2 own2 (ledger marks2 own2 p) k (omega (arith, own_length, l)) ∙ same (p.block + k) ∙ sym (own_byte code bytes own (ledger marks own p) k (omega (arith, own_length, l)))) in
+        rw (code_same, data_same, own_same, marks_same) refl
       where
         data_byte : (c b w : List ℕ) (others : ℕ → ℕ) (k : ℕ) → k < length bytes → get_or b k 0 ≡ memory_of c b w p others (p.code_end + k)
         data_byte c b w others k l = ap (slice_index b) (omega arith) ∙ sym (at_data c b w p others (p.code_end + k) (omega arith) (omega (arith, e.0, e.1)))
@@ -128,7 +128,7 @@ module _ (code bytes own marks : List ℕ) (p : Protection) (words : (k : ℕ) �
     ends : (execute W g).stop ≡ Went ⊎ Asked (fetchable p) (usable p) M M (λ a h. refl) (λ a h. refl) g (execute W g) ⊎ Faulted (fetchable p) (usable p) M M (λ a h. refl) (λ a h. refl) g (execute W g)
     ends = ends_so (fetchable p) (usable p) M M (λ a h. refl) (λ a h. refl) g
 
-    faults : KeepsAtFault g (sharing code marks bytes own p) stop g2 (sharing code2 marks bytes2 own2 p)
+    faults : KeepsAtFault g (sharing code marks bytes own p) stop g2 (sharing code2 marks2 bytes2 own2 p)
     faults kind at h =
         elim ends [
           | inl q ↦ absurd (let i : Went ≡ Fault kind at = sym q ∙ stops ∙ h in cc)
@@ -136,7 +136,7 @@ module _ (code bytes own marks : List ℕ) (p : Protection) (words : (k : ℕ) �
           | inr (inr q) ↦ (sym goes ∙ q.2, same_parts q.3)
         ]
 
-    asks : AsksByTrap g (sharing code marks bytes own p) stop g2 (sharing code2 marks bytes2 own2 p)
+    asks : AsksByTrap g (sharing code marks bytes own p) stop g2 (sharing code2 marks2 bytes2 own2 p)
     asks n h =
         elim ends [
           | inl q ↦ absurd (let i : Went ≡ Service n = sym q ∙ stops ∙ h in cc)
@@ -154,12 +154,15 @@ module _ (code bytes own marks : List ℕ) (p : Protection) (words : (k : ℕ) �
 
   -- ---- the whole of it
 
-  abbrev All : Regs → Stop → Regs → List ℕ → List ℕ → List ℕ → Protection → Type 0
-  All g stop g2 code2 bytes2 own2 q = Steps g (sharing code marks bytes own p) stop g2 (sharing code2 marks bytes2 own2 q) × KeepsAtFault g (sharing code marks bytes own p) stop g2 (sharing code2 marks bytes2 own2 q) × AsksByTrap g (sharing code marks bytes own p) stop g2 (sharing code2 marks bytes2 own2 q) × AnswersTrap g (sharing code marks bytes own p) stop
+  abbrev All : Regs → Stop → Regs → List ℕ → List ℕ → List ℕ → List ℕ → Protection → Type 0
+  All g stop g2 code2 marks2 bytes2 own2 q = Steps g (sharing code marks bytes own p) stop g2 (sharing code2 marks2 bytes2 own2 q) × KeepsAtFault g (sharing code marks bytes own p) stop g2 (sharing code2 marks2 bytes2 own2 q) × AsksByTrap g (sharing code marks bytes own p) stop g2 (sharing code2 marks2 bytes2 own2 q) × AnswersTrap g (sharing code marks bytes own p) stop
 
-  pub one_step : (code2 bytes2 own2 : List ℕ) (p2 : Protection) (e2 : EndAt code2 bytes2 p2) (o2 : LieInOrder own2 p2) (g g2 : Regs) (stop : Stop) (done : execute (protected p (memory_of code bytes own p (ledger own p))) g ≡ record { stop = stop; regs = g2; world = protected p2 (memory_of code2 bytes2 own2 p2 (ledger own2 p2)) }) → All g stop g2 code2 bytes2 own2 p2
-  one_step code2 bytes2 own2 p2 e2 o2 g g2 stop done =
-      subst (λ (q : Protection). EndAt code2 bytes2 q → LieInOrder own2 q → execute (protected p (memory_of code bytes own p (ledger own p))) g ≡ record { stop = stop; regs = g2; world = protected q (memory_of code2 bytes2 own2 q (ledger own2 q)) } → All g stop g2 code2 bytes2 own2 q)
-      (sym (same_places code bytes own p o code2 bytes2 own2 p2 o2 g g2 stop done))
-      (λ e3 o3 d. (steps code2 bytes2 own2 e3 o3 g g2 stop d, faults code2 bytes2 own2 e3 o3 g g2 stop d, asks code2 bytes2 own2 e3 o3 g g2 stop d, answers code2 bytes2 own2 e3 o3 g g2 stop d))
+  pub one_step : (code2 bytes2 own2 marks2 : List ℕ) (p2 : Protection) (e2 : EndAt code2 bytes2 p2) (o2 : LieInOrder own2 p2) (m : length marks ≡ length code) (m2 : length marks2 ≡ length code2) (g g2 : Regs) (stop : Stop) (done : execute (protected p (memory_of code bytes own p (ledger marks own p))) g ≡ record { stop = stop; regs = g2; world = protected p2 (memory_of code2 bytes2 own2 p2 (ledger marks2 own2 p2)) }) → All g stop g2 code2 marks2 bytes2 own2 p2
+  one_step code2 bytes2 own2 marks2 p2 e2 o2 m m2 g g2 stop done =
+      let places : p2 ≡ p = same_places code bytes own marks p o code2 bytes2 own2 marks2 p2 o2 g g2 stop done in
+      let end : p2.code_end ≡ p.code_end = ap (λ (q : Protection). q.code_end) places in
+      let same : marks2 ≡ marks = same_marks code bytes own marks p o code2 bytes2 own2 marks2 p2 o2 g g2 stop done (omega (arith, m, m2, e.0, e2.0, end)) in
+      subst (λ (q : Protection). EndAt code2 bytes2 q → LieInOrder own2 q → execute (protected p (memory_of code bytes own p (ledger marks own p))) g ≡ record { stop = stop; regs = g2; world = protected q (memory_of code2 bytes2 own2 q (ledger marks2 own2 q)) } → All g stop g2 code2 marks2 bytes2 own2 q)
+      (sym places)
+      (λ e3 o3 d. (steps code2 bytes2 own2 marks2 same e3 o3 g g2 stop d, faults code2 bytes2 own2 marks2 same e3 o3 g g2 stop d, asks code2 bytes2 own2 marks2 same e3 o3 g g2 stop d, answers code2 bytes2 own2 marks2 same e3 o3 g g2 stop d))
       e2 o2 done

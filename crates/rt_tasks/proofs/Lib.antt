@@ -1,7 +1,9 @@
+pub mod Words
 pub mod Places
 pub mod Accesses
 pub mod Alike
 pub mod Steps
+pub mod Using
 pub mod Ended
 pub mod Blocks
 pub mod Starts

@@ -11,11 +11,8 @@ use Rattle.rt_image.specs.declared.image.ImageTask.{ImageTask}
 use Rattle.rt_image.specs.Memory.{words_bytes, task_bytes}
 use Rattle.rt_image.specs.Ranges.{HasImageRanges, HasTaskRanges}
 use Rattle.rt_tasks.specs.Parts.{Task, LieInOrder}
+use Rattle.rt_tasks.proofs.Words.{length-words_bytes}
 use Rattle.rt_tasks.specs.Start.{places_of, start_regs, start_task, IsStart, IsPlaced}
-
-pub length-words_bytes : (ws : List ℕ) → length (words_bytes ws) ≡ 2 * length ws
-length-words_bytes [] = refl
-length-words_bytes (w ∷ ws) = omega (arith, length-words_bytes ws)
 
 -- the block has 16 bytes
 pub long : (i : ImageParts) → HasImageRanges i → (n : ℕ) (t : ImageTask) → slice_get i.tasks n ≡ Some t → length (task_bytes t) ≡ 16 + 2 * t.stack

@@ -1,5 +1,5 @@
 -- An instruction over the parts of one task is the same over the whole memory.
-use Rattle.std.proofs.Common.{◌≡◌, ℕ, ◌+◌, ◌-◌, ◌*◌, ◌/◌, ◌%◌, ◌<◌, ◌≤◌, Bool, true, false, ◌&&◌, ◌==◌, nat_lt, nat_le, List, length, refl, sym, ap, ◌∙◌, subst, inl, inr, arith, lt-ltb, le-ltb, ltb-true, leb-true}
+use Rattle.std.proofs.Common.{◌≡◌, ℕ, ◌+◌, ◌-◌, ◌*◌, ◌/◌, ◌%◌, ◌<◌, ◌≤◌, Bool, true, false, ◌&&◌, ◌==◌, nat_lt, nat_le, List, length, suc, get_or, refl, sym, ap, ◌∙◌, subst, inl, inr, arith, lt-ltb, le-ltb, ltb-true, leb-true}
 use Rattle.std.specs.Prelude.{slice_index}
 use Rattle.std.proofs.Math.Path.{fun_ext}
 use Rattle.std.proofs.lemmas.Bool.Decides.{leb_tells, nat_tests}
@@ -31,10 +31,10 @@ and_false : (x : Bool) → (x && false) ≡ false
 and_false true = refl
 and_false false = refl
 
-below : (low end a : ℕ) → a < low → within low end a ≡ false
+pub below : (low end a : ℕ) → a < low → within low end a ≡ false
 below low end a h = let e : nat_le low a ≡ false = grind (arith, nat_tests) in rw e refl
 
-above : (low end a : ℕ) → end ≤ a → within low end a ≡ false
+pub above : (low end a : ℕ) → end ≤ a → within low end a ≡ false
 above low end a h = rw (le-ltb a end h) (and_false (nat_le low a))
 
 pub inside : (low end a : ℕ) → within low end a ≡ true → (low ≤ a) × (a < end)
@@ -91,11 +91,11 @@ outcome_same y c h b f t e1 e2 e3 e4 e5 = rw (sym e1, sym e2, sym e3, sym e4, sy
 
 -- ---- one instruction, where the parts lie at the same places before and after it
 
-module _ (code bytes own : List ℕ) (p : Protection) (e : EndAt code bytes p) (o : LieInOrder own p) (code2 bytes2 own2 : List ℕ) (e2 : EndAt code2 bytes2 p) (o2 : LieInOrder own2 p) (g g2 : Regs) (stop : Stop) (done : execute (protected p (memory_of code bytes own p (ledger own p))) g ≡ record { stop = stop; regs = g2; world = protected p (memory_of code2 bytes2 own2 p (ledger own2 p)) }) where
-  alone : Both (fetchable p) (usable p) (memory_of code bytes own p (ledger own p)) (memory_of code bytes own p (ledger own p)) (execute (protected p (memory_of code bytes own p (ledger own p))) g) (execute (protected p (memory_of code bytes own p (ledger own p))) g)
-  alone = executes_alike (fetchable p) (usable p) (memory_of code bytes own p (ledger own p)) (memory_of code bytes own p (ledger own p)) (λ a h. refl) (λ a h. refl) g
+module _ (code bytes own marks : List ℕ) (p : Protection) (e : EndAt code bytes p) (o : LieInOrder own p) (code2 bytes2 own2 marks2 : List ℕ) (e2 : EndAt code2 bytes2 p) (o2 : LieInOrder own2 p) (g g2 : Regs) (stop : Stop) (done : execute (protected p (memory_of code bytes own p (ledger marks own p))) g ≡ record { stop = stop; regs = g2; world = protected p (memory_of code2 bytes2 own2 p (ledger marks2 own2 p)) }) where
+  alone : Both (fetchable p) (usable p) (memory_of code bytes own p (ledger marks own p)) (memory_of code bytes own p (ledger marks own p)) (execute (protected p (memory_of code bytes own p (ledger marks own p))) g) (execute (protected p (memory_of code bytes own p (ledger marks own p))) g)
+  alone = executes_alike (fetchable p) (usable p) (memory_of code bytes own p (ledger marks own p)) (memory_of code bytes own p (ledger marks own p)) (λ a h. refl) (λ a h. refl) g
 
-  kept : (a : ℕ) → may (usable p) a ≡ false → memory_of code2 bytes2 own2 p (ledger own2 p) a ≡ memory_of code bytes own p (ledger own p) a
+  kept : (a : ℕ) → may (usable p) a ≡ false → memory_of code2 bytes2 own2 p (ledger marks2 own2 p) a ≡ memory_of code bytes own p (ledger marks own p) a
   kept a h = sym (ap (λ (x : Outcome). x.world.bytes a) done) ∙ alone.first_kept a h
 
   low_end : p.code_end ≤ 57344
@@ -106,7 +106,7 @@ module _ (code bytes own : List ℕ) (p : Protection) (e : EndAt code bytes p) (
 
   code_kept : (a : ℕ) → a < p.code_end → code_byte code2 a ≡ code_byte code a
   code_kept a h =
-      sym (at_code code2 bytes2 own2 p (ledger own2 p) a h) ∙ kept a (unusable a (unused_code own p a o h)) ∙ at_code code bytes own p (ledger own p) a h
+      sym (at_code code2 bytes2 own2 p (ledger marks2 own2 p) a h) ∙ kept a (unusable a (unused_code own p a o h)) ∙ at_code code bytes own p (ledger marks own p) a h
 
   same_code_length : length code2 ≡ length code
   same_code_length = omega (arith, e.0, e2.0)
@@ -135,8 +135,8 @@ module _ (code bytes own : List ℕ) (p : Protection) (e : EndAt code bytes p) (
   same_code = same_number_lists code2 code same_code_length (λ k h. omega (arith, low_bytes k (omega (arith, same_code_length)), high_bytes k (omega (arith, same_code_length))))
 
   module _ (others : ℕ → ℕ) where
-    both : Both (fetchable p) (usable p) (memory_of code bytes own p (ledger own p)) (memory_of code bytes own p others) (execute (protected p (memory_of code bytes own p (ledger own p))) g) (execute (protected p (memory_of code bytes own p others)) g)
-    both = executes_alike (fetchable p) (usable p) (memory_of code bytes own p (ledger own p)) (memory_of code bytes own p others) (same_fetched code bytes own p o (ledger own p) others) (same_used code bytes own p o (ledger own p) others) g
+    both : Both (fetchable p) (usable p) (memory_of code bytes own p (ledger marks own p)) (memory_of code bytes own p others) (execute (protected p (memory_of code bytes own p (ledger marks own p))) g) (execute (protected p (memory_of code bytes own p others)) g)
+    both = executes_alike (fetchable p) (usable p) (memory_of code bytes own p (ledger marks own p)) (memory_of code bytes own p others) (same_fetched code bytes own p o (ledger marks own p) others) (same_used code bytes own p o (ledger marks own p) others) g
 
     -- at an address that the task may not use
     other_byte : (a : ℕ) → may (usable p) a ≡ false → memory_of code bytes own p others a ≡ memory_of code2 bytes2 own2 p others a
@@ -151,7 +151,7 @@ module _ (code bytes own : List ℕ) (p : Protection) (e : EndAt code bytes p) (
         refl)
 
     byte_by : (a : ℕ) (b : Bool) → may (usable p) a ≡ b → (execute (protected p (memory_of code bytes own p others)) g).world.bytes a ≡ memory_of code2 bytes2 own2 p others a
-    byte_by a true h = sym (both.used a h) ∙ ap (λ (x : Outcome). x.world.bytes a) done ∙ same_used code2 bytes2 own2 p o2 (ledger own2 p) others a h
+    byte_by a true h = sym (both.used a h) ∙ ap (λ (x : Outcome). x.world.bytes a) done ∙ same_used code2 bytes2 own2 p o2 (ledger marks2 own2 p) others a h
     byte_by a false h = both.second_kept a h ∙ other_byte a h
 
     pub stepped : execute (protected p (memory_of code bytes own p others)) g ≡ record { stop = stop; regs = g2; world = protected p (memory_of code2 bytes2 own2 p others) }
@@ -174,12 +174,22 @@ same_places_by : (p q : Protection) → p.code_end ≡ q.code_end → p.data_end
 same_places_by p q e1 e2 e3 e4 e5 =
     let r : p ≡ record { code_end = q.code_end; data_end = q.data_end; block = q.block; brick = q.brick; brick_end = q.brick_end } = rw (sym e1, sym e2, sym e3, sym e4, sym e5) refl in r
 
-module _ (code bytes own : List ℕ) (p : Protection) (o : LieInOrder own p) (code2 bytes2 own2 : List ℕ) (p2 : Protection) (o2 : LieInOrder own2 p2) (g g2 : Regs) (stop : Stop) (done : execute (protected p (memory_of code bytes own p (ledger own p))) g ≡ record { stop = stop; regs = g2; world = protected p2 (memory_of code2 bytes2 own2 p2 (ledger own2 p2)) }) where
-  told : (a : ℕ) → 65536 ≤ a → ledger own2 p2 a ≡ ledger own p a
+module _ (code bytes own marks : List ℕ) (p : Protection) (o : LieInOrder own p) (code2 bytes2 own2 marks2 : List ℕ) (p2 : Protection) (o2 : LieInOrder own2 p2) (g g2 : Regs) (stop : Stop) (done : execute (protected p (memory_of code bytes own p (ledger marks own p))) g ≡ record { stop = stop; regs = g2; world = protected p2 (memory_of code2 bytes2 own2 p2 (ledger marks2 own2 p2)) }) where
+  told : (a : ℕ) → 65536 ≤ a → ledger marks2 own2 p2 a ≡ ledger marks own p a
   told a h =
-      let m = memory_of code bytes own p (ledger own p) in
-      let kept : memory_of code2 bytes2 own2 p2 (ledger own2 p2) a ≡ m a = sym (ap (λ (x : Outcome). x.world.bytes a) done) ∙ (executes_alike (fetchable p) (usable p) m m (λ b k. refl) (λ b k. refl) g).first_kept a (rw (le-ltb a 57344 (omega arith)) refl) in
-      sym (behind code2 bytes2 own2 p2 o2 (ledger own2 p2) a h) ∙ kept ∙ behind code bytes own p o (ledger own p) a h
+      let m = memory_of code bytes own p (ledger marks own p) in
+      let kept : memory_of code2 bytes2 own2 p2 (ledger marks2 own2 p2) a ≡ m a = sym (ap (λ (x : Outcome). x.world.bytes a) done) ∙ (executes_alike (fetchable p) (usable p) m m (λ b k. refl) (λ b k. refl) g).first_kept a (rw (le-ltb a 57344 (omega arith)) refl) in
+      sym (behind code2 bytes2 own2 p2 o2 (ledger marks2 own2 p2) a h) ∙ kept ∙ behind code bytes own p o (ledger marks own p) a h
 
   pub same_places : p2 ≡ p
   same_places = same_places_by p2 p (told 65536 (omega arith)) (told 65537 (omega arith)) (told 65538 (omega arith)) (told 65539 (omega arith)) (told 65540 (omega arith))
+
+  -- the marks stand behind the six numbers
+  pub same_marks : length marks2 ≡ length marks → marks2 ≡ marks
+  same_marks h = same_number_lists marks2 marks h (λ k l. mark k)
+    where
+      mark : (k : ℕ) → get_or marks2 k 0 ≡ get_or marks k 0
+      mark k =
+          let at : (65542 + k) - 65536 ≡ suc (suc (suc (suc (suc (suc k))))) = omega arith in
+          let t = told (65542 + k) (omega arith) in
+          rw at at t

@@ -1,4 +1,5 @@
 pub mod Parts
+pub mod Words
 pub mod Whole
 pub mod Ledger
 pub mod Found

@@ -1,35 +1,39 @@
 // The memory as the running task meets it.
-ghost use Rattle.std.specs.Prelude.{◌≡◌, ℕ, ◌+◌, ◌*◌, ◌≤◌, ◌/◌, ◌%◌, ◌<◌, length, vec_len, slice_index, slice_set, None, []};
-ghost use Rattle.pdp_core.specs.World.{word_at};
+ghost use Rattle.std.specs.Prelude.{◌≡◌, ℕ, ◌+◌, ◌*◌, ◌≤◌, ◌/◌, ◌%◌, ◌<◌, length, vec_len, slice_index, None, []};
 ghost use Rattle.pdp_core.specs.Protection.{protected};
+ghost use Rattle.rt_image.specs.Memory.{words_bytes};
 ghost use Rattle.rt_tasks.specs.Parts.{LieInOrder, EndAt, nowhere};
 ghost use Rattle.rt_tasks.specs.Whole.{memory_of};
 ghost use Rattle.rt_tasks.specs.Ledger.{ledger};
-ghost use Rattle.rt_tasks.specs.Found.{IsFound};
+ghost use Rattle.rt_tasks.specs.Words.{code_words, code_marks};
+ghost use Rattle.rt_tasks.specs.Found.{IsFound, refusal, half_at, with_half};
 
+use crate::code::{Marked, halved};
 use pdp_core::{Bus, MEMORY_END, Protection, Refused};
+use rt_words::wrap_sub;
 use std::alloc::Global;
 use std::mem;
 
-/// The bytes of a task's SVC block, 16 of them, and of its stack brick behind it.
+/// The words of a task's SVC block, eight of them, and of its stack brick behind it. Contracts see their bytes.
 #[derive(Drop)]
 pub struct StackBrick {
-    pub(crate) bytes: Vec<u8>,
+    pub(crate) words: Vec<u16>,
 }
 
-/// The code, the data, and the block and brick of the task that runs.
+/// The code, the data, and the block and brick of the task that runs, in words. Contracts see the bytes of the data and of the
+/// block and brick.
 #[derive(Drop)]
 pub struct TaskMemory {
-    pub code: Vec<u16>,
-    pub bytes: Vec<u8>,
+    pub code: Vec<Marked>,
+    pub data_words: Vec<u16>,
     pub own: StackBrick,
     pub places: Protection,
-    ghost words: { (k : ℕ) → slice_index code.items k < 65536 },
-    ghost ends: { EndAt code.items bytes.items places },
-    ghost order: { LieInOrder own.bytes.items places },
+    ghost words: { (k : ℕ) → slice_index (code_words code.items) k < 65536 },
+    ghost ends: { EndAt (code_words code.items) (words_bytes data_words.items) places },
+    ghost order: { LieInOrder (words_bytes own.words.items) places },
 }
 
-/// Where a byte that the task may use stands: in the data or in its own block and brick, by its place there, or nowhere.
+/// Where a word that the task may use stands: in the data or in its own block and brick, by its place there, or nowhere.
 #[derive(Debug, Clone, Copy)]
 pub enum Found {
     InData(usize),
@@ -37,44 +41,59 @@ pub enum Found {
     Nowhere,
 }
 
-// The word of two bytes, the low one first.
+/// Why a word at an address isn't there to use.
 #[inline(always)]
-fn word(bytes: &[u8], at: usize) -> u16
-    requires { at + 1 < length bytes.now }
-    ensures { result ≡ word_at (λ k. slice_index bytes.now k) at }
+fn refused(at: u16) -> Refused
+    ensures { result ≡ refusal at }
 {
-    let low = bytes[at];
-    let high = bytes[at + 1];
-    low as u16 + 256 * high as u16
+    if at % 2 == 1 {
+        Refused::Odd(at)
+    } else {
+        Refused::Access(at)
+    }
 }
 
-// Puts a word as two bytes, the low one first.
+/// The byte of a word at an even or odd address.
 #[inline(always)]
-fn put_word(bytes: &mut Vec<u8>, at: usize, word: u16)
-    requires { at + 1 < vec_len bytes.old }
-    ensures { bytes.new.items ≡ slice_set (slice_set bytes.old.items at (word % 256)) (at + 1) (word / 256) }
+fn half(word: u16, at: u16) -> u8
+    ensures { result ≡ half_at word at }
 {
-    bytes[at] = (word % 256) as u8;
-    bytes[at + 1] = (word / 256) as u8;
+    if at % 2 == 0 {
+        (word % 256) as u8
+    } else {
+        (word / 256) as u8
+    }
+}
+
+/// A word with another byte at an even or odd address.
+#[inline(always)]
+fn put_half(word: u16, at: u16, byte: u8) -> u16
+    ensures { result ≡ with_half word at byte }
+{
+    if at % 2 == 0 {
+        word / 256 * 256 + byte as u16
+    } else {
+        word % 256 + 256 * byte as u16
+    }
 }
 
 impl TaskMemory {
     /// This code and these data, while no task runs.
-    pub fn new(alloc: Global, code: Vec<u16>, bytes: Vec<u8>) -> TaskMemory
-        requires room { 2 * vec_len code + vec_len bytes ≤ 57344 }
-        requires even { vec_len bytes % 2 ≡ 0 }
+    pub fn new(alloc: Global, code: Vec<Marked>, data_words: Vec<u16>) -> TaskMemory
+        requires words { (k : ℕ) → slice_index (code_words code.items) k < 65536 }
+        requires room { 2 * vec_len code + 2 * vec_len data_words ≤ 57344 }
         ensures code { result.code ≡ code }
-        ensures bytes { result.bytes ≡ bytes }
-        ensures own { result.own.bytes.items ≡ [] }
-        ensures places { result.places ≡ nowhere code.items bytes.items }
+        ensures data_words { result.data_words ≡ data_words }
+        ensures own { result.own.words.items ≡ [] }
+        ensures places { result.places ≡ nowhere (code_words code.items) (words_bytes data_words.items) }
     {
         let code_end = 2 * code.len() as u16;
-        let data_end = code_end + bytes.len() as u16;
+        let data_end = code_end + 2 * data_words.len() as u16;
         TaskMemory {
             code,
-            bytes,
+            data_words,
             own: StackBrick {
-                bytes: Vec::new(alloc),
+                words: Vec::new(alloc),
             },
             places: Protection {
                 code_end,
@@ -86,30 +105,28 @@ impl TaskMemory {
         }
     }
 
-    // Where the byte at an address stands, if the task may use it.
+    /// Where the word at an address stands, if the task may use it.
     #[inline(always)]
     fn find(&self, at: u16) -> Found
-        ensures { IsFound self.now.bytes.items self.now.own.bytes.items self.now.places at result }
+        ensures { IsFound self.now.data_words.items self.now.own.words.items self.now.places at result }
     {
-        if at >= self.places.block {
-            let place = usize::from(at - self.places.block);
-            if place < self.own.bytes.len() {
-                return Found::InOwn(place);
-            }
-            return Found::Nowhere;
+        let place = halved(wrap_sub(at, self.places.block));
+        if place < self.own.words.len() {
+            return Found::InOwn(place);
         }
-        if at >= self.places.code_end && at < self.places.data_end {
-            return Found::InData(usize::from(at - self.places.code_end));
+        let place = halved(wrap_sub(at, self.places.code_end));
+        if place < self.data_words.len() {
+            return Found::InData(place);
         }
         Found::Nowhere
     }
 
     /// Takes in the block and brick of a task that is to run.
     pub fn take_in(&mut self, own: StackBrick, places: Protection)
-        requires ends { EndAt self.old.code.items self.old.bytes.items places }
-        requires order { LieInOrder own.bytes.items places }
+        requires ends { EndAt (code_words self.old.code.items) (words_bytes self.old.data_words.items) places }
+        requires order { LieInOrder (words_bytes own.words.items) places }
         ensures code { self.new.code ≡ self.old.code }
-        ensures bytes { self.new.bytes ≡ self.old.bytes }
+        ensures data_words { self.new.data_words ≡ self.old.data_words }
         ensures own { self.new.own ≡ own }
         ensures places { self.new.places ≡ places }
     {
@@ -120,15 +137,15 @@ impl TaskMemory {
     /// Hands out the block and brick of the task that ran.
     pub fn hand_out(&mut self) -> (StackBrick, Protection)
         ensures code { self.new.code ≡ self.old.code }
-        ensures bytes { self.new.bytes ≡ self.old.bytes }
-        ensures own { self.new.own.bytes.items ≡ [] }
-        ensures places { self.new.places ≡ nowhere self.old.code.items self.old.bytes.items }
+        ensures data_words { self.new.data_words ≡ self.old.data_words }
+        ensures own { self.new.own.words.items ≡ [] }
+        ensures places { self.new.places ≡ nowhere (code_words self.old.code.items) (words_bytes self.old.data_words.items) }
         ensures handed { result ≡ (self.old.own, self.old.places) }
     {
         let places = self.places;
-        let alloc = *self.own.bytes.allocator();
+        let alloc = *self.own.words.allocator();
         let none = StackBrick {
-            bytes: Vec::new(alloc),
+            words: Vec::new(alloc),
         };
         let own = mem::replace(&mut self.own, none);
         self.places.block = MEMORY_END;
@@ -139,62 +156,59 @@ impl TaskMemory {
 }
 
 impl Bus for TaskMemory {
-    ghost world = { λ m. protected m.places (memory_of m.code.items m.bytes.items m.own.bytes.items m.places (ledger m.own.bytes.items m.places)) };
+    ghost world = { λ m. protected m.places (memory_of (code_words m.code.items) (words_bytes m.data_words.items) (words_bytes m.own.words.items) m.places (ledger (code_marks m.code.items) (words_bytes m.own.words.items) m.places)) };
 
     ghost accesses = { λ _. None };
 
     #[inline(always)]
     fn fetch(&mut self, at: u16) -> Result<u16, Refused> {
-        if at % 2 == 1 {
-            return Err(Refused::Odd(at));
-        }
-        let place = usize::from(at / 2);
+        let place = halved(at);
         if place < self.code.len() {
-            Ok(self.code[place])
+            Ok(self.code[place].word)
         } else {
-            Err(Refused::Access(at))
+            Err(refused(at))
         }
     }
 
     #[inline(always)]
     fn read_word(&mut self, at: u16) -> Result<u16, Refused> {
-        if at % 2 == 1 {
-            return Err(Refused::Odd(at));
-        }
         match self.find(at) {
-            Found::InData(place) => Ok(word(&self.bytes, place)),
-            Found::InOwn(place) => Ok(word(&self.own.bytes, place)),
-            Found::Nowhere => Err(Refused::Access(at)),
+            Found::InData(place) => Ok(self.data_words[place]),
+            Found::InOwn(place) => Ok(self.own.words[place]),
+            Found::Nowhere => Err(refused(at)),
         }
     }
 
     #[inline(always)]
     fn read_byte(&mut self, at: u16) -> Result<u8, Refused> {
-        match self.find(at) {
-            Found::InData(place) => Ok(self.bytes[place]),
-            Found::InOwn(place) => Ok(self.own.bytes[place]),
+        match self.find(at / 2 * 2) {
+            Found::InData(place) => Ok(half(self.data_words[place], at)),
+            Found::InOwn(place) => Ok(half(self.own.words[place], at)),
             Found::Nowhere => Err(Refused::Access(at)),
         }
     }
 
     #[inline(always)]
     fn write_word(&mut self, at: u16, w: u16) -> Result<(), Refused> {
-        if at % 2 == 1 {
-            return Err(Refused::Odd(at));
-        }
         match self.find(at) {
-            Found::InData(place) => put_word(&mut self.bytes, place, w),
-            Found::InOwn(place) => put_word(&mut self.own.bytes, place, w),
-            Found::Nowhere => return Err(Refused::Access(at)),
+            Found::InData(place) => self.data_words[place] = w,
+            Found::InOwn(place) => self.own.words[place] = w,
+            Found::Nowhere => return Err(refused(at)),
         }
         Ok(())
     }
 
     #[inline(always)]
     fn write_byte(&mut self, at: u16, b: u8) -> Result<(), Refused> {
-        match self.find(at) {
-            Found::InData(place) => self.bytes[place] = b,
-            Found::InOwn(place) => self.own.bytes[place] = b,
+        match self.find(at / 2 * 2) {
+            Found::InData(place) => self.data_words[place] = put_half(
+                self.data_words[place],
+                at,
+                b,
+            ),
+            Found::InOwn(place) => {
+                self.own.words[place] = put_half(self.own.words[place], at, b)
+            }
             Found::Nowhere => return Err(Refused::Access(at)),
         }
         Ok(())

@@ -2,8 +2,9 @@ ghost use Rattle.std.specs.Prelude.{◌≡◌, IfOk};
 ghost use Rattle.rt_tasks.specs.Start.{start_sharing};
 
 use crate::memory::TaskMemory;
+use crate::start::{data_words, marked_words};
 use rt_image::Image;
-use rt_words::{List, Memory};
+use rt_words::Memory;
 use std::alloc::Global;
 use std::marker::Model;
 
@@ -11,16 +12,17 @@ use std::marker::Model;
 /// beside it.
 #[derive(Drop)]
 pub struct Shared {
-    pub(crate) marks: List<u8>,
     pub(crate) memory: TaskMemory,
 }
 
 impl Model for Shared {
+    ghost use Rattle.rt_image.specs.Memory.{words_bytes};
     ghost use Rattle.rt_tasks.specs.Parts.{Sharing};
+    ghost use Rattle.rt_tasks.specs.Words.{code_words, code_marks};
 
     ghost Value = { Sharing };
 
-    ghost view = { λ s. record { code = s.memory.code.items; marks = s.marks; bytes = s.memory.bytes.items; own = s.memory.own.bytes.items; places = s.memory.places } };
+    ghost view = { λ s. record { code = code_words s.memory.code.items; marks = code_marks s.memory.code.items; bytes = words_bytes s.memory.data_words.items; own = words_bytes s.memory.own.words.items; places = s.memory.places } };
 }
 
 impl Shared {
@@ -29,10 +31,9 @@ impl Shared {
         ensures { IfOk result (λ s. s ≡ start_sharing image.now) }
     {
         let parts = image.parts();
-        let code = Vec::from_slice(alloc, parts.code.as_slice())?;
-        let data = Vec::from_slice(alloc, parts.bytes.as_slice())?;
-        let memory = TaskMemory::new(alloc, code, data);
-        let marks = parts.marks.copy(alloc)?;
-        Ok(Shared { marks, memory })
+        let code = marked_words(alloc, parts.code.as_slice(), parts.marks.as_slice())?;
+        let words = data_words(alloc, parts.bytes.as_slice())?;
+        let memory = TaskMemory::new(alloc, code, words);
+        Ok(Shared { memory })
     }
 }

@@ -1,13 +1,14 @@
 // The parts of a task at the start of an image.
 ghost use Rattle.std.specs.Prelude.{◌≡◌, ◌+◌, ◌*◌, ◌%◌, ◌<◌, ◌≤◌, ◌++◌, length, map, replicate, sum, slice_get, IfOk, IfSome, OnOk};
-ghost use Rattle.rt_words.specs.Bytes.{word_bytes};
 ghost use Rattle.rt_image.specs.Memory.{words_bytes, block_from};
 ghost use Rattle.rt_image.specs.Ranges.{task_size, HasImageRanges};
 ghost use Rattle.rt_tasks.specs.Start.{places_of, start_regs, IsPlaced};
+ghost use Rattle.rt_tasks.specs.Words.{code_words, code_marks};
 
+use crate::code::Marked;
 use pdp_core::{Protection, Regs};
 use rt_image::{ImageParts, ImageTask};
-use rt_words::{Memory, Text};
+use rt_words::{ListBuilder, Memory};
 use std::alloc::Global;
 
 // The address of the block of task `n`, counted from 0, where that of the first is `from`.
@@ -61,23 +62,36 @@ pub fn registers(places: &Protection, entry: u16) -> Regs
     }
 }
 
-fn put_word(out: &mut Text, word: u16) -> Result<(), Memory>
-    ensures { OnOk result (out.new.items ≡ out.old.items ++ word_bytes word) }
+/// The words of the code, each with its mark.
+pub fn marked_words(alloc: Global, code: &[u16], marks: &[u8]) -> Result<Vec<Marked>, Memory>
+    requires { length marks.now ≡ length code.now }
+    ensures words { IfOk result (λ v. code_words v.items ≡ code.now) }
+    ensures marks { IfOk result (λ v. code_marks v.items ≡ marks.now) }
 {
-    out.push((word % 256) as u8)?;
-    out.push((word / 256) as u8)
-}
-
-fn put_words(out: &mut Text, words: &[u16]) -> Result<(), Memory>
-    ensures { OnOk result (out.new.items ≡ out.old.items ++ words_bytes words.now) }
-{
-    for word in words {
-        put_word(out, *word)?;
+    let mut words = ListBuilder::new(alloc, code.len())?;
+    for n in 0..code.len() {
+        words.push(Marked {
+            word: code[n],
+            mark: marks[n],
+        })?;
     }
-    Ok(())
+    Ok(words.into_vec())
 }
 
-fn put_zeros(out: &mut Text, count: usize) -> Result<(), Memory>
+/// The words of an even number of bytes, the low one of each first.
+pub fn data_words(alloc: Global, bytes: &[u8]) -> Result<Vec<u16>, Memory>
+    requires { length bytes.now % 2 ≡ 0 }
+    ensures { IfOk result (λ v. words_bytes v.items ≡ bytes.now) }
+{
+    let count = bytes.len() / 2;
+    let mut words = ListBuilder::new(alloc, count)?;
+    for n in 0..count {
+        words.push(bytes[2 * n] as u16 + 256 * bytes[2 * n + 1] as u16)?;
+    }
+    Ok(words.into_vec())
+}
+
+fn put_zeros(out: &mut ListBuilder<u16>, count: usize) -> Result<(), Memory>
     ensures { OnOk result (out.new.items ≡ out.old.items ++ replicate count 0) }
 {
     for _i in 0..count {
@@ -86,13 +100,13 @@ fn put_zeros(out: &mut Text, count: usize) -> Result<(), Memory>
     Ok(())
 }
 
-/// The bytes of a block with these words, and of a brick of so many words behind it, which are zeros.
-pub fn own_bytes(alloc: Global, block: &[u16], stack: u16) -> Result<Vec<u8>, Memory>
-    ensures { IfOk result (λ v. v.items ≡ words_bytes block.now ++ replicate (2 * stack) 0) }
+/// The words of a block, and of a brick of so many words behind it, which are zeros.
+pub fn own_words(alloc: Global, block: &[u16], stack: u16) -> Result<Vec<u16>, Memory>
+    ensures { IfOk result (λ v. words_bytes v.items ≡ words_bytes block.now ++ replicate (2 * stack) 0) }
 {
-    let zeros = 2 * usize::from(stack);
-    let mut bytes = Text::new(alloc, 16 + zeros)?;
-    put_words(&mut bytes, block)?;
-    put_zeros(&mut bytes, zeros)?;
-    Ok(bytes.into_vec())
+    let zeros = usize::from(stack);
+    let mut words = ListBuilder::new(alloc, block.len() + zeros)?;
+    words.push_all(block)?;
+    put_zeros(&mut words, zeros)?;
+    Ok(words.into_vec())
 }

@@ -10,7 +10,7 @@ ghost use Rattle.rt_tasks.specs.Traps.{mark_of};
 use crate::code::mark_at;
 use crate::memory::StackBrick;
 use crate::shared::Shared;
-use crate::start::{own_bytes, places, registers};
+use crate::start::{own_words, places, registers};
 use pdp_core::{Done, Protection, Regs, Stop, carry_on};
 use rt_image::Image;
 use rt_words::Memory;
@@ -26,13 +26,14 @@ pub struct Parked {
 }
 
 impl Model for Parked {
+    ghost use Rattle.rt_image.specs.Memory.{words_bytes};
     ghost use Rattle.rt_tasks.specs.Parts.{Task, LieInOrder};
 
     ghost Value = { Task };
 
-    ghost view = { λ p. record { regs = p.regs; own = p.own.bytes.items; places = p.places } };
+    ghost view = { λ p. record { regs = p.regs; own = words_bytes p.own.words.items; places = p.places } };
 
-    ghost invariant = { λ p. LieInOrder p.own.bytes.items p.places };
+    ghost invariant = { λ p. LieInOrder (words_bytes p.own.words.items) p.places };
 }
 
 impl Parked {
@@ -47,10 +48,10 @@ impl Parked {
         let n = usize::from(task) - 1;
         let places = places(parts, n);
         let task = &parts.tasks.as_slice()[n];
-        let bytes = own_bytes(alloc, &task.block, task.stack)?;
+        let words = own_words(alloc, &task.block, task.stack)?;
         Ok(Parked {
             regs: registers(&places, task.entry),
-            own: StackBrick { bytes },
+            own: StackBrick { words },
             places,
         })
     }
@@ -136,7 +137,7 @@ impl Running<'_> {
         ensures { result ≡ mark_of self.now.shared.now.marks (reg self.now.regs Pc) }
     {
         let shared = &*self.shared;
-        mark_at(shared.marks.as_slice(), self.regs.r[7])
+        mark_at(shared.memory.code.as_slice(), self.regs.r[7])
     }
 
     /// The program counter.

@@ -1,11 +1,20 @@
-use Rattle.std.proofs.Common.{rules}
-use Rattle.rt_tasks.proofs.Accesses.{data_byte_read, own_byte_read}
+use Rattle.std.proofs.Common.{rules, ap, ◌∙◌}
+use Rattle.std.specs.Prelude.{Ok}
+use Rattle.rt_tasks.specs.Words.{code_words, code_marks}
+use Rattle.rt_tasks.proofs.Using.{data_half, own_half}
+use Rattle.rt_tasks.proofs.Words.{read_there}
 use Rattle.rt_tasks.proofs.memory.TaskMemoryBus.read_byte.Goals as goal
 
 pub returns-in-InData-clause-value : goal.returns-in-InData-clause-value
 returns-in-InData-clause-value c =
-    data_byte_read c.args.self.now.code.items c.args.self.now.bytes.items c.args.self.now.own.bytes.items c.args.self.now.places c.args.self.now.ends c.args.self.now.order c.args.at c.in-InData.place c.in-InData.ensures.0 c.in-InData.ensures.1 c.index.result.now c.index.ensures (search rules)
+    let m = c.args.self.now in
+    let k = c.in-InData.place in
+    let x = c.index.result.now in
+    ap Ok c.half.ensures ∙ data_half (code_words m.code.items) m.data_words.items m.own.words.items (code_marks m.code.items) m.places m.ends m.order c.args.at k c.in-InData.ensures.1 x c.in-InData.ensures.0 (read_there m.data_words.items k x c.in-InData.ensures.1 c.index.ensures) (search rules)
 
 pub returns-in-InOwn-clause-value : goal.returns-in-InOwn-clause-value
 returns-in-InOwn-clause-value c =
-    own_byte_read c.args.self.now.code.items c.args.self.now.bytes.items c.args.self.now.own.bytes.items c.args.self.now.places c.args.self.now.ends c.args.self.now.order c.args.at c.in-InOwn.place c.in-InOwn.ensures.0 c.in-InOwn.ensures.1 c.index-in-InOwn.result.now c.index-in-InOwn.ensures (search rules)
+    let m = c.args.self.now in
+    let k = c.in-InOwn.place in
+    let x = c.index-in-InOwn.result.now in
+    ap Ok c.half-in-InOwn.ensures ∙ own_half (code_words m.code.items) m.data_words.items m.own.words.items (code_marks m.code.items) m.places m.ends m.order c.args.at k c.in-InOwn.ensures.1 x c.in-InOwn.ensures.0 (read_there m.own.words.items k x c.in-InOwn.ensures.1 c.index-in-InOwn.ensures) (search rules)

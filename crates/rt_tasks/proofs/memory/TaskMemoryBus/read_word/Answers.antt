@@ -1,15 +1,19 @@
-use Rattle.std.proofs.Common.{ap, ◌∙◌, ℕ, List}
-use Rattle.std.specs.Prelude.{slice_index, Ok}
-use Rattle.pdp_core.specs.World.{word_at}
-use Rattle.rt_tasks.proofs.Accesses.{data_second, own_second, data_word_read, own_word_read}
+use Rattle.std.proofs.Common.{rules}
+use Rattle.rt_tasks.specs.Words.{code_words, code_marks}
+use Rattle.rt_tasks.proofs.Using.{data_read, own_read}
+use Rattle.rt_tasks.proofs.Words.{read_there}
 use Rattle.rt_tasks.proofs.memory.TaskMemoryBus.read_word.Goals as goal
 
 pub returns-in-InData-clause-value : goal.returns-in-InData-clause-value
 returns-in-InData-clause-value c =
-    ap Ok (c.word.ensures ∙ ap (λ (bs : List ℕ). word_at (λ k. slice_index bs k) c.in-InData.place) c.deref.ensures.value)
-    ∙ data_word_read c.args.self.now.code.items c.args.self.now.bytes.items c.args.self.now.own.bytes.items c.args.self.now.places c.args.self.now.ends c.args.self.now.order c.args.at c.in-InData.place c.in-InData.ensures.0 c.in-InData.ensures.1 c.if-at-eq1.false (data_second c.args.self.now.code.items c.args.self.now.bytes.items c.args.self.now.own.bytes.items c.args.self.now.places c.args.self.now.ends c.args.self.now.order c.args.at c.in-InData.place c.in-InData.ensures.0 c.in-InData.ensures.1 c.if-at-eq1.false)
+    let m = c.args.self.now in
+    let k = c.in-InData.place in
+    let x = c.index.result.now in
+    data_read (code_words m.code.items) m.data_words.items m.own.words.items (code_marks m.code.items) m.places m.ends m.order c.args.at k c.in-InData.ensures.1 x c.in-InData.ensures.0 (read_there m.data_words.items k x c.in-InData.ensures.1 c.index.ensures) (search rules)
 
 pub returns-in-InOwn-clause-value : goal.returns-in-InOwn-clause-value
 returns-in-InOwn-clause-value c =
-    ap Ok (c.word-in-InOwn.ensures ∙ ap (λ (bs : List ℕ). word_at (λ k. slice_index bs k) c.in-InOwn.place) c.deref-in-InOwn.ensures.value)
-    ∙ own_word_read c.args.self.now.code.items c.args.self.now.bytes.items c.args.self.now.own.bytes.items c.args.self.now.places c.args.self.now.ends c.args.self.now.order c.args.at c.in-InOwn.place c.in-InOwn.ensures.0 c.in-InOwn.ensures.1 c.if-at-eq1.false (own_second c.args.self.now.code.items c.args.self.now.bytes.items c.args.self.now.own.bytes.items c.args.self.now.places c.args.self.now.ends c.args.self.now.order c.args.at c.in-InOwn.place c.in-InOwn.ensures.0 c.in-InOwn.ensures.1 c.if-at-eq1.false)
+    let m = c.args.self.now in
+    let k = c.in-InOwn.place in
+    let x = c.index-in-InOwn.result.now in
+    own_read (code_words m.code.items) m.data_words.items m.own.words.items (code_marks m.code.items) m.places m.ends m.order c.args.at k c.in-InOwn.ensures.1 x c.in-InOwn.ensures.0 (read_there m.own.words.items k x c.in-InOwn.ensures.1 c.index-in-InOwn.ensures) (search rules)
