@@ -36,6 +36,9 @@ given_back g h r = with_reg (with_reg h r (reg g r)) Pc (reg g Pc)
 counter_itself : (g : Regs) → with_reg g Pc (reg g Pc) ≡ g
 counter_itself g = ap (λ (l : List ℕ). record g { r = l }) (set-get_or g.r 7 0)
 
+pub counter_back : (g : Regs) (a : ℕ) → with_reg (with_reg g Pc a) Pc (reg g Pc) ≡ g
+counter_back g a = ap (λ (l : List ℕ). record g { r = l }) (once g.r 7 a)
+
 after_none : (g : Regs) (r : Reg) → given_back g g r ≡ g
 after_none g r = ap (λ (l : List ℕ). record g { r = slice_set l 7 (slice_index g.r 7) }) (set-get_or g.r (reg_code r) 0) ∙ counter_itself g
 

@@ -1,5 +1,5 @@
 -- What one instruction does.
-use Rattle.std.specs.Prelude.{ℕ, ◌+◌, ◌-◌, ◌*◌, ◌/◌, ◌%◌, Bool, true, false, ◌==◌, ◌&&◌, ◌||◌, nat_lt, nat_le, not, if◌then◌else◌, Option, Some, None, Result, Ok, Err, slice_index, slice_set, bit_and, bit_or, bit_xor, zero, suc}
+use Rattle.std.specs.Prelude.{ℕ, ◌+◌, ◌-◌, ◌*◌, ◌/◌, ◌%◌, Bool, true, false, ◌==◌, ◌&&◌, ◌||◌, nat_lt, nat_le, not, if◌then◌else◌, Option, Some, None, Result, Ok, Err, slice_index, slice_set, bit_and, bit_or, bit_xor}
 use Rattle.rt_words.specs.Word.{wrap_add, wrap_sub, extend_sign, with_low_byte, differ}
 use Rattle.pdp_code.specs.declared.instruction.Reg.{Reg}
 use Rattle.pdp_code.specs.declared.instruction.Reg.TheVariants.{R0, R1, R2, R3, R4, R5, Sp, Pc}
@@ -14,7 +14,7 @@ use Rattle.pdp_code.specs.declared.instruction.DoubleOp.TheVariants.{Mov, Cmp, B
 use Rattle.pdp_code.specs.declared.instruction.SumOp.{SumOp}
 use Rattle.pdp_code.specs.declared.instruction.SumOp.TheVariants.{Add, Sub}
 use Rattle.pdp_code.specs.declared.instruction.SingleOp.{SingleOp}
-use Rattle.pdp_code.specs.declared.instruction.SingleOp.TheVariants.{Clr, Com, Inc, Dec, Neg, Adc, Sbc, Tst, Ror, Rol, Asr, Asl}
+use Rattle.pdp_code.specs.declared.instruction.SingleOp.TheVariants.{Clr, Tst}
 use Rattle.pdp_code.specs.declared.instruction.WordOp.{WordOp}
 use Rattle.pdp_code.specs.declared.instruction.WordOp.TheVariants.{Swab, Sxt}
 use Rattle.pdp_code.specs.declared.instruction.RegisterOp.{RegisterOp}
@@ -36,7 +36,7 @@ use Rattle.pdp_core.specs.declared.cpu.Stop.TheVariants.{Went, Trap as Service, 
 use Rattle.pdp_values.specs.declared.value.Shift.{Shift}
 use Rattle.pdp_core.specs.declared.cpu.Place.{Place}
 use Rattle.pdp_core.specs.declared.cpu.Place.TheVariants.{InRegister, InMemory, InCode}
-use Rattle.pdp_values.specs.Values.{limit, half, negative, plus, minus, single_value, single_carry, single_overflow, product_of, no_word, too_large, quotient_word, remainder_word, shifted}
+use Rattle.pdp_values.specs.Values.{negative, plus, minus, single_value, single_carry, single_overflow, product_of, no_word, too_large, quotient_word, remainder_word, shifted}
 use Rattle.pdp_core.specs.World.{World, fetched, word_read, byte_read, word_written, byte_written}
 
 -- what an instruction leaves

@@ -14,7 +14,7 @@ use crate::flags::{mark, set_by_change, set_by_difference, set_by_sum, set_by_va
 use crate::groups::carry_out;
 use crate::memory::Bus;
 use crate::operand::{
-    find, get, get_at, index, load_at, next, set, set_at, store_at, store_word, undo, value,
+    failure_of, find, get, get_at, index, load_at, set, set_at, store_at, store_word, undo, value,
     word_at, write_word,
 };
 use crate::pairs::{divide, get_pair, set_product, set_shifted, set_shifted_pair};
@@ -471,9 +471,6 @@ fn two_to<O: OnTwo, Z: Width, B: Bus>(
     ensures kept { OnErr result (regs.new ≡ regs.old) }
     ensures made { B.accesses bus.new ≡ at_place (B.world bus.old) Z.SIZE regs.old (operand_of d) (λ h. double_made (B.world bus.old) h O.OP Z.SIZE) (B.accesses bus.old) }
 {
-    if d / 0o10 == 0 {
-        return two::<O, Z, B>(bus, regs, x, Spot::Register(d));
-    }
     let kept = get_at(regs, d);
     let at = get(regs, Reg::Pc);
     let place = find(bus, Z::SIZE, regs, d)?;
@@ -508,9 +505,6 @@ fn total_to<O: OnSum, B: Bus>(bus: &mut B, regs: &mut Regs, x: u16, d: u16) -> R
     ensures kept { OnErr result (regs.new ≡ regs.old) }
     ensures made { B.accesses bus.new ≡ at_place (B.world bus.old) Size.Word regs.old (operand_of d) (λ h. update_made (B.world bus.old) Size.Word h) (B.accesses bus.old) }
 {
-    if d / 0o10 == 0 {
-        return total::<O, B>(bus, regs, x, Spot::Register(d));
-    }
     let kept = get_at(regs, d);
     let at = get(regs, Reg::Pc);
     let place = find(bus, Size::Word, regs, d)?;
@@ -534,6 +528,50 @@ pub fn do_double_in_registers<O: OnTwo, Z: Width, B: Bus>(
 {
     let x = load_at(bus, Z::SIZE, regs, Spot::Register(s))?;
     two::<O, Z, B>(bus, regs, x, Spot::Register(d))
+}
+
+/// The same of a destination that is a register.
+#[inline(always)]
+pub fn do_double_to_register<O: OnTwo, Z: Width, B: Bus>(
+    bus: &mut B,
+    regs: &mut Regs,
+    s: u16,
+    d: u16,
+) -> Result<(), Failure>
+    requires { d / 8 ≡ 0 }
+    ensures value { double_step (B.world bus.old) regs.old O.OP Z.SIZE (operand_of s) (operand_of d) ≡ left result regs.new (B.world bus.new) }
+    ensures err { OnErr result (B.world bus.new ≡ B.world bus.old) }
+    ensures kept { OnErr result (regs.new ≡ regs.old) }
+    ensures made { B.accesses bus.new ≡ perform_made 0 (B.world bus.old) regs.old (Instr.Double O.OP Z.SIZE (operand_of s) (operand_of d)) (B.accesses bus.old) }
+{
+    let kept = get_at(regs, s);
+    let at = get(regs, Reg::Pc);
+    let x = value(bus, Z::SIZE, regs, s)?;
+    or_undo!(
+        two::<O, Z, B>(bus, regs, x, Spot::Register(d)),
+        regs,
+        s,
+        kept,
+        at
+    )
+}
+
+/// The same of a source that is a register.
+#[inline(always)]
+pub fn do_double_from_register<O: OnTwo, Z: Width, B: Bus>(
+    bus: &mut B,
+    regs: &mut Regs,
+    s: u16,
+    d: u16,
+) -> Result<(), Failure>
+    requires { s / 8 ≡ 0 }
+    ensures value { double_step (B.world bus.old) regs.old O.OP Z.SIZE (operand_of s) (operand_of d) ≡ left result regs.new (B.world bus.new) }
+    ensures err { OnErr result (B.world bus.new ≡ B.world bus.old) }
+    ensures kept { OnErr result (regs.new ≡ regs.old) }
+    ensures made { B.accesses bus.new ≡ perform_made 0 (B.world bus.old) regs.old (Instr.Double O.OP Z.SIZE (operand_of s) (operand_of d)) (B.accesses bus.old) }
+{
+    let x = load_at(bus, Z::SIZE, regs, Spot::Register(s))?;
+    two_to::<O, Z, B>(bus, regs, x, d)
 }
 
 /// A source and a destination, of words alone.
@@ -567,6 +605,50 @@ pub fn do_sum_in_registers<O: OnSum, B: Bus>(
 {
     let x = load_at(bus, Size::Word, regs, Spot::Register(s))?;
     total::<O, B>(bus, regs, x, Spot::Register(d))
+}
+
+/// The same of a destination that is a register.
+#[inline(always)]
+pub fn do_sum_to_register<O: OnSum, B: Bus>(
+    bus: &mut B,
+    regs: &mut Regs,
+    s: u16,
+    d: u16,
+) -> Result<(), Failure>
+    requires { d / 8 ≡ 0 }
+    ensures value { sum_step (B.world bus.old) regs.old O.OP (operand_of s) (operand_of d) ≡ left result regs.new (B.world bus.new) }
+    ensures err { OnErr result (B.world bus.new ≡ B.world bus.old) }
+    ensures kept { OnErr result (regs.new ≡ regs.old) }
+    ensures made { B.accesses bus.new ≡ perform_made 0 (B.world bus.old) regs.old (Instr.Sum O.OP (operand_of s) (operand_of d)) (B.accesses bus.old) }
+{
+    let kept = get_at(regs, s);
+    let at = get(regs, Reg::Pc);
+    let x = value(bus, Size::Word, regs, s)?;
+    or_undo!(
+        total::<O, B>(bus, regs, x, Spot::Register(d)),
+        regs,
+        s,
+        kept,
+        at
+    )
+}
+
+/// The same of a source that is a register.
+#[inline(always)]
+pub fn do_sum_from_register<O: OnSum, B: Bus>(
+    bus: &mut B,
+    regs: &mut Regs,
+    s: u16,
+    d: u16,
+) -> Result<(), Failure>
+    requires { s / 8 ≡ 0 }
+    ensures value { sum_step (B.world bus.old) regs.old O.OP (operand_of s) (operand_of d) ≡ left result regs.new (B.world bus.new) }
+    ensures err { OnErr result (B.world bus.new ≡ B.world bus.old) }
+    ensures kept { OnErr result (regs.new ≡ regs.old) }
+    ensures made { B.accesses bus.new ≡ perform_made 0 (B.world bus.old) regs.old (Instr.Sum O.OP (operand_of s) (operand_of d)) (B.accesses bus.old) }
+{
+    let x = load_at(bus, Size::Word, regs, Spot::Register(s))?;
+    total_to::<O, B>(bus, regs, x, d)
 }
 
 /// One operand, of words or bytes.
@@ -698,9 +780,12 @@ fn attempt<B: Bus>(bus: &mut B, regs: &mut Regs, stop: &mut Stop) -> Done
     ensures made { B.accesses bus.new ≡ execute_made (B.world bus.old) regs.old (B.accesses bus.old) }
 {
     let at = get(regs, Reg::Pc);
-    match next(bus, regs) {
-        Ok(w) => carry_out(bus, regs, at, w, stop),
-        Err(failure) => stop_by(stop, failure),
+    match bus.fetch(at) {
+        Ok(w) => {
+            set(regs, Reg::Pc, wrap_add(at, 2));
+            carry_out(bus, regs, at, w, stop)
+        }
+        Err(refused) => stop_by(stop, failure_of(refused)),
     }
 }
 

@@ -1,17 +1,19 @@
 // Instructions, decoded and carried out in one: a function for each group of codes.
-ghost use Rattle.std.specs.Prelude.{◌≡◌, ◌≢◌, ◌/◌, ◌%◌, Some, None};
+ghost use Rattle.std.specs.Prelude.{◌≡◌, ◌≢◌, ◌/◌, ◌%◌, ◌<◌, ◌≤◌, Some, None};
 ghost use Rattle.pdp_code.specs.declared.instruction.Instr.{Instr};
+ghost use Rattle.pdp_code.specs.declared.instruction.Size.{Size};
 ghost use Rattle.pdp_code.specs.Code.{condition_code};
 ghost use Rattle.pdp_code.specs.First.{size_at, operand_of, double_of, condition_of, other_first, first_of};
 ghost use Rattle.pdp_core.specs.Accesses.{perform_made, first_made};
-ghost use Rattle.pdp_core.specs.Execute.{branch as branch_of, holds, double_step, sum_step, single_step, perform_first};
+ghost use Rattle.pdp_core.specs.Execute.{branch as branch_of, holds, double_step, sum_step, single_step, jump_step, perform_first};
 ghost use Rattle.pdp_core.specs.Told.{told};
 ghost use Rattle.pdp_core.specs.Groups.{from_registers, from_words, from_singles};
 
 use crate::cpu::{Done, Kind, Regs, Stop};
 use crate::execute::{
-    ask, count_down, do_call, do_double, do_double_in_registers, do_jump, do_register, do_single,
-    do_single_in_register, do_sum, do_sum_in_registers, do_word, failed, leave, stop_by,
+    ask, count_down, do_call, do_double, do_double_from_register, do_double_in_registers,
+    do_double_to_register, do_jump, do_register, do_single, do_single_in_register, do_sum,
+    do_sum_from_register, do_sum_in_registers, do_sum_to_register, do_word, failed, leave, stop_by,
     take_branch,
 };
 use crate::flags::mark;
@@ -34,8 +36,9 @@ macro_rules! ended {
     };
 }
 
-/// A source and a destination, of words or bytes. Each operation of each size is a function of its own, and no part of the loop.
-#[inline(never)]
+/// A source and a destination, of words or bytes. Where both are registers this is a part of the loop; where not, a function of its own for
+/// each operation and size, and for a register on either side.
+#[inline(always)]
 fn carry_two<O: OnTwo, Z: Width, B: Bus>(
     bus: &mut B,
     regs: &mut Regs,
@@ -52,10 +55,56 @@ fn carry_two<O: OnTwo, Z: Width, B: Bus>(
     if s / 0o10 == 0 && d / 0o10 == 0 {
         return ended!(do_double_in_registers::<O, Z, B>(bus, regs, s, d), stop);
     }
+    if d / 0o10 == 0 {
+        return carry_two_to_register::<O, Z, B>(bus, regs, w, stop);
+    }
+    if s / 0o10 == 0 {
+        return carry_two_from_register::<O, Z, B>(bus, regs, w, stop);
+    }
     carry_two_in_memory::<O, Z, B>(bus, regs, w, stop)
 }
 
-/// The same, of operands that aren't both registers.
+/// The same, of a destination that is a register.
+#[inline(never)]
+fn carry_two_to_register<O: OnTwo, Z: Width, B: Bus>(
+    bus: &mut B,
+    regs: &mut Regs,
+    w: u16,
+    stop: &mut Stop,
+) -> Done
+    requires { w % 64 / 8 ≡ 0 }
+    ensures value { double_step (B.world bus.old) regs.old O.OP Z.SIZE (operand_of (w / 64 % 64)) (operand_of (w % 64)) ≡ told result stop.new regs.new (B.world bus.new) }
+    ensures err { result ≡ Done.Stopped → B.world bus.new ≡ B.world bus.old }
+    ensures kept { result ≡ Done.Stopped → regs.new ≡ regs.old }
+    ensures made { B.accesses bus.new ≡ perform_made 0 (B.world bus.old) regs.old (Instr.Double O.OP Z.SIZE (operand_of (w / 64 % 64)) (operand_of (w % 64))) (B.accesses bus.old) }
+{
+    ended!(
+        do_double_to_register::<O, Z, B>(bus, regs, w / 0o100 % 0o100, w % 0o100),
+        stop
+    )
+}
+
+/// The same, of a source that is a register.
+#[inline(never)]
+fn carry_two_from_register<O: OnTwo, Z: Width, B: Bus>(
+    bus: &mut B,
+    regs: &mut Regs,
+    w: u16,
+    stop: &mut Stop,
+) -> Done
+    requires { w / 64 % 64 / 8 ≡ 0 }
+    ensures value { double_step (B.world bus.old) regs.old O.OP Z.SIZE (operand_of (w / 64 % 64)) (operand_of (w % 64)) ≡ told result stop.new regs.new (B.world bus.new) }
+    ensures err { result ≡ Done.Stopped → B.world bus.new ≡ B.world bus.old }
+    ensures kept { result ≡ Done.Stopped → regs.new ≡ regs.old }
+    ensures made { B.accesses bus.new ≡ perform_made 0 (B.world bus.old) regs.old (Instr.Double O.OP Z.SIZE (operand_of (w / 64 % 64)) (operand_of (w % 64))) (B.accesses bus.old) }
+{
+    ended!(
+        do_double_from_register::<O, Z, B>(bus, regs, w / 0o100 % 0o100, w % 0o100),
+        stop
+    )
+}
+
+/// The same, of any operands.
 #[inline(never)]
 fn carry_two_in_memory<O: OnTwo, Z: Width, B: Bus>(
     bus: &mut B,
@@ -75,7 +124,7 @@ fn carry_two_in_memory<O: OnTwo, Z: Width, B: Bus>(
 }
 
 /// A source and a destination, of words alone.
-#[inline(never)]
+#[inline(always)]
 fn carry_sum<O: OnSum, B: Bus>(bus: &mut B, regs: &mut Regs, w: u16, stop: &mut Stop) -> Done
     ensures value { sum_step (B.world bus.old) regs.old O.OP (operand_of (w / 64 % 64)) (operand_of (w % 64)) ≡ told result stop.new regs.new (B.world bus.new) }
     ensures err { result ≡ Done.Stopped → B.world bus.new ≡ B.world bus.old }
@@ -87,10 +136,56 @@ fn carry_sum<O: OnSum, B: Bus>(bus: &mut B, regs: &mut Regs, w: u16, stop: &mut 
     if s / 0o10 == 0 && d / 0o10 == 0 {
         return ended!(do_sum_in_registers::<O, B>(bus, regs, s, d), stop);
     }
+    if d / 0o10 == 0 {
+        return carry_sum_to_register::<O, B>(bus, regs, w, stop);
+    }
+    if s / 0o10 == 0 {
+        return carry_sum_from_register::<O, B>(bus, regs, w, stop);
+    }
     carry_sum_in_memory::<O, B>(bus, regs, w, stop)
 }
 
-/// The same, of operands that aren't both registers.
+/// The same, of a destination that is a register.
+#[inline(never)]
+fn carry_sum_to_register<O: OnSum, B: Bus>(
+    bus: &mut B,
+    regs: &mut Regs,
+    w: u16,
+    stop: &mut Stop,
+) -> Done
+    requires { w % 64 / 8 ≡ 0 }
+    ensures value { sum_step (B.world bus.old) regs.old O.OP (operand_of (w / 64 % 64)) (operand_of (w % 64)) ≡ told result stop.new regs.new (B.world bus.new) }
+    ensures err { result ≡ Done.Stopped → B.world bus.new ≡ B.world bus.old }
+    ensures kept { result ≡ Done.Stopped → regs.new ≡ regs.old }
+    ensures made { B.accesses bus.new ≡ perform_made 0 (B.world bus.old) regs.old (Instr.Sum O.OP (operand_of (w / 64 % 64)) (operand_of (w % 64))) (B.accesses bus.old) }
+{
+    ended!(
+        do_sum_to_register::<O, B>(bus, regs, w / 0o100 % 0o100, w % 0o100),
+        stop
+    )
+}
+
+/// The same, of a source that is a register.
+#[inline(never)]
+fn carry_sum_from_register<O: OnSum, B: Bus>(
+    bus: &mut B,
+    regs: &mut Regs,
+    w: u16,
+    stop: &mut Stop,
+) -> Done
+    requires { w / 64 % 64 / 8 ≡ 0 }
+    ensures value { sum_step (B.world bus.old) regs.old O.OP (operand_of (w / 64 % 64)) (operand_of (w % 64)) ≡ told result stop.new regs.new (B.world bus.new) }
+    ensures err { result ≡ Done.Stopped → B.world bus.new ≡ B.world bus.old }
+    ensures kept { result ≡ Done.Stopped → regs.new ≡ regs.old }
+    ensures made { B.accesses bus.new ≡ perform_made 0 (B.world bus.old) regs.old (Instr.Sum O.OP (operand_of (w / 64 % 64)) (operand_of (w % 64))) (B.accesses bus.old) }
+{
+    ended!(
+        do_sum_from_register::<O, B>(bus, regs, w / 0o100 % 0o100, w % 0o100),
+        stop
+    )
+}
+
+/// The same, of any operands.
 #[inline(never)]
 fn carry_sum_in_memory<O: OnSum, B: Bus>(
     bus: &mut B,
@@ -110,7 +205,7 @@ fn carry_sum_in_memory<O: OnSum, B: Bus>(
 }
 
 /// One operand, of words or bytes.
-#[inline(never)]
+#[inline(always)]
 fn carry_one<O: OnOne, Z: Width, B: Bus>(
     bus: &mut B,
     regs: &mut Regs,
@@ -145,19 +240,44 @@ fn carry_one_in_memory<O: OnOne, Z: Width, B: Bus>(
     ended!(do_single::<O, Z, B>(bus, regs, w % 0o100), stop)
 }
 
-/// A source and a destination, of words or bytes by the top bit.
+/// The size by the four top bits.
 #[inline(always)]
-fn double<O: OnTwo, B: Bus>(bus: &mut B, regs: &mut Regs, w: u16, stop: &mut Stop) -> Done
+fn is_of_words(w: u16)
+    requires { w / 4096 < 8 }
+    ensures { size_at (w / 32768) ≡ Size.Word }
+{}
+
+/// The same, of bytes.
+#[inline(always)]
+fn is_of_bytes(w: u16)
+    requires { 8 ≤ w / 4096 }
+    ensures { size_at (w / 32768) ≡ Size.Byte }
+{}
+
+/// A source and a destination, of words.
+#[inline(always)]
+fn double_words<O: OnTwo, B: Bus>(bus: &mut B, regs: &mut Regs, w: u16, stop: &mut Stop) -> Done
+    requires { w / 4096 < 8 }
     ensures value { double_step (B.world bus.old) regs.old O.OP (size_at (w / 32768)) (operand_of (w / 64 % 64)) (operand_of (w % 64)) ≡ told result stop.new regs.new (B.world bus.new) }
     ensures err { result ≡ Done.Stopped → B.world bus.new ≡ B.world bus.old }
     ensures kept { result ≡ Done.Stopped → regs.new ≡ regs.old }
     ensures made { B.accesses bus.new ≡ perform_made 0 (B.world bus.old) regs.old (Instr.Double O.OP (size_at (w / 32768)) (operand_of (w / 64 % 64)) (operand_of (w % 64))) (B.accesses bus.old) }
 {
-    if w / 0o100000 == 0 {
-        carry_two::<O, Words, B>(bus, regs, w, stop)
-    } else {
-        carry_two::<O, Bytes, B>(bus, regs, w, stop)
-    }
+    is_of_words(w);
+    carry_two::<O, Words, B>(bus, regs, w, stop)
+}
+
+/// A source and a destination, of bytes.
+#[inline(always)]
+fn double_bytes<O: OnTwo, B: Bus>(bus: &mut B, regs: &mut Regs, w: u16, stop: &mut Stop) -> Done
+    requires { 8 ≤ w / 4096 }
+    ensures value { double_step (B.world bus.old) regs.old O.OP (size_at (w / 32768)) (operand_of (w / 64 % 64)) (operand_of (w % 64)) ≡ told result stop.new regs.new (B.world bus.new) }
+    ensures err { result ≡ Done.Stopped → B.world bus.new ≡ B.world bus.old }
+    ensures kept { result ≡ Done.Stopped → regs.new ≡ regs.old }
+    ensures made { B.accesses bus.new ≡ perform_made 0 (B.world bus.old) regs.old (Instr.Double O.OP (size_at (w / 32768)) (operand_of (w / 64 % 64)) (operand_of (w % 64))) (B.accesses bus.old) }
+{
+    is_of_bytes(w);
+    carry_two::<O, Bytes, B>(bus, regs, w, stop)
 }
 
 /// One operand, of words or bytes by the top bit.
@@ -197,21 +317,27 @@ fn branch(regs: &mut Regs, c: Condition, w: u16) -> Done
     Done::Went
 }
 
-/// The instructions with no table of their own.
+/// A jump.
+#[inline(never)]
+fn jump<B: Bus>(bus: &mut B, regs: &mut Regs, at: u16, w: u16, stop: &mut Stop) -> Done
+    ensures value { jump_step at (B.world bus.old) regs.old (operand_of (w % 64)) ≡ told result stop.new regs.new (B.world bus.new) }
+    ensures err { result ≡ Done.Stopped → B.world bus.new ≡ B.world bus.old }
+    ensures kept { result ≡ Done.Stopped → regs.new ≡ regs.old }
+    ensures made { B.accesses bus.new ≡ perform_made at (B.world bus.old) regs.old (Instr.Jump (operand_of (w % 64))) (B.accesses bus.old) }
+{
+    ended!(do_jump(bus, regs, at, w % 0o100), stop)
+}
+
+/// The instructions with no table of their own, but SOB and JMP.
 #[inline(never)]
 fn other<B: Bus>(bus: &mut B, regs: &mut Regs, at: u16, w: u16, stop: &mut Stop) -> Done
+    requires no_loop { w / 512 ≢ 63 }
+    requires no_jump { w / 64 ≢ 1 }
     ensures value { perform_first at (B.world bus.old) regs.old (other_first w) ≡ told result stop.new regs.new (B.world bus.new) }
     ensures err { result ≡ Done.Stopped → B.world bus.new ≡ B.world bus.old }
     ensures kept { result ≡ Done.Stopped → regs.new ≡ regs.old }
     ensures made { B.accesses bus.new ≡ first_made at (B.world bus.old) regs.old (other_first w) (B.accesses bus.old) }
 {
-    if w / 0o1000 == 0o77 {
-        count_down(regs, register(w / 0o100 % 0o10), (w % 0o100) as u8);
-        return Done::Went;
-    }
-    if w / 0o100 == 1 {
-        return ended!(do_jump(bus, regs, at, w % 0o100), stop);
-    }
     if w / 0o1000 == 4 {
         return ended!(
             do_call(bus, regs, at, register(w / 0o100 % 0o10), w % 0o100),
@@ -238,10 +364,11 @@ fn other<B: Bus>(bus: &mut B, regs: &mut Regs, at: u16, w: u16, stop: &mut Stop)
     stop_by(stop, failed(Kind::Reserved, at))
 }
 
-/// A register and an operand, or the groups behind, where it is no branch.
+/// A register and an operand, or a register and how far to go back, or the groups behind, where it is no branch.
 #[inline(never)]
 fn register_or_more<B: Bus>(bus: &mut B, regs: &mut Regs, at: u16, w: u16, stop: &mut Stop) -> Done
-    requires { condition_of (w / 256) ≡ None }
+    requires no_branch { condition_of (w / 256) ≡ None }
+    requires no_jump { w / 64 ≢ 1 }
     ensures value { perform_first at (B.world bus.old) regs.old (from_registers w) ≡ told result stop.new regs.new (B.world bus.new) }
     ensures err { result ≡ Done.Stopped → B.world bus.new ≡ B.world bus.old }
     ensures kept { result ≡ Done.Stopped → regs.new ≡ regs.old }
@@ -250,6 +377,10 @@ fn register_or_more<B: Bus>(bus: &mut B, regs: &mut Regs, at: u16, w: u16, stop:
     let r = register(w / 0o100 % 0o10);
     let s = w % 0o100;
     match w / 0o1000 {
+        0o77 => {
+            count_down(regs, r, s as u8);
+            Done::Went
+        }
         0o70 => ended!(do_register(bus, regs, at, RegisterOp::Mul, r, s), stop),
         0o71 => ended!(do_register(bus, regs, at, RegisterOp::Div, r, s), stop),
         0o72 => ended!(do_register(bus, regs, at, RegisterOp::Ash, r, s), stop),
@@ -262,7 +393,8 @@ fn register_or_more<B: Bus>(bus: &mut B, regs: &mut Regs, at: u16, w: u16, stop:
 /// One operand, of words alone, or the groups behind, where it is no branch.
 #[inline(always)]
 fn word_or_more<B: Bus>(bus: &mut B, regs: &mut Regs, at: u16, w: u16, stop: &mut Stop) -> Done
-    requires { condition_of (w / 256) ≡ None }
+    requires no_branch { condition_of (w / 256) ≡ None }
+    requires no_jump { w / 64 ≢ 1 }
     ensures value { perform_first at (B.world bus.old) regs.old (from_words w) ≡ told result stop.new regs.new (B.world bus.new) }
     ensures err { result ≡ Done.Stopped → B.world bus.new ≡ B.world bus.old }
     ensures kept { result ≡ Done.Stopped → regs.new ≡ regs.old }
@@ -297,7 +429,7 @@ fn has_one_at_most(w: u16)
     ensures { first_of w ≡ from_singles w }
 {}
 
-/// The instructions with no operand and with one, of which the branches are told first.
+/// The instructions with no operand and with one. Branches and jumps are told by the same table as those of one operand.
 #[inline(always)]
 fn one_at_most<B: Bus>(bus: &mut B, regs: &mut Regs, at: u16, w: u16, stop: &mut Stop) -> Done
     requires { w / 4096 % 8 ≡ 0 }
@@ -308,6 +440,11 @@ fn one_at_most<B: Bus>(bus: &mut B, regs: &mut Regs, at: u16, w: u16, stop: &mut
 {
     has_one_at_most(w);
     match w / 0o100 {
+        1 => {
+            prove!(w / 0o1000 == 0);
+            prove!(w / 0o400 == 0);
+            jump(bus, regs, at, w, stop)
+        }
         0o4 | 0o5 | 0o6 | 0o7 => branch(regs, Condition::Always, w),
         0o10 | 0o11 | 0o12 | 0o13 => branch(regs, Condition::NotEqual, w),
         0o14 | 0o15 | 0o16 | 0o17 => branch(regs, Condition::Equal, w),
@@ -339,24 +476,6 @@ fn one_at_most<B: Bus>(bus: &mut B, regs: &mut Regs, at: u16, w: u16, stop: &mut
     }
 }
 
-/// A source and a destination, of words alone, by the top bit.
-#[inline(always)]
-fn sum<B: Bus>(bus: &mut B, regs: &mut Regs, at: u16, w: u16, stop: &mut Stop) -> Done
-    requires { w / 4096 % 8 ≡ 6 }
-    ensures value { perform_first at (B.world bus.old) regs.old (first_of w) ≡ told result stop.new regs.new (B.world bus.new) }
-    ensures err { result ≡ Done.Stopped → B.world bus.new ≡ B.world bus.old }
-    ensures kept { result ≡ Done.Stopped → regs.new ≡ regs.old }
-    ensures made { B.accesses bus.new ≡ first_made at (B.world bus.old) regs.old (first_of w) (B.accesses bus.old) }
-{
-    if w / 0o100000 == 0 {
-        prove!(w / 0o10000 == 6);
-        carry_sum::<Add, B>(bus, regs, w, stop)
-    } else {
-        prove!(w / 0o10000 == 0o16);
-        carry_sum::<Sub, B>(bus, regs, w, stop)
-    }
-}
-
 /// The instruction that a first word begins, which stood at a place; the registers are past it.
 #[inline(always)]
 pub fn carry_out<B: Bus>(bus: &mut B, regs: &mut Regs, at: u16, w: u16, stop: &mut Stop) -> Done
@@ -365,19 +484,26 @@ pub fn carry_out<B: Bus>(bus: &mut B, regs: &mut Regs, at: u16, w: u16, stop: &m
     ensures kept { result ≡ Done.Stopped → regs.new ≡ regs.old }
     ensures made { B.accesses bus.new ≡ first_made at (B.world bus.old) regs.old (first_of w) (B.accesses bus.old) }
 {
-    match w / 0o10000 % 0o10 {
-        0 => one_at_most(bus, regs, at, w, stop),
-        1 => double::<Mov, B>(bus, regs, w, stop),
-        2 => double::<Cmp, B>(bus, regs, w, stop),
-        3 => double::<Bit, B>(bus, regs, w, stop),
-        4 => double::<Bic, B>(bus, regs, w, stop),
-        5 => double::<Bis, B>(bus, regs, w, stop),
-        6 => sum(bus, regs, at, w, stop),
-        _ => {
+    match w / 0o10000 {
+        0 | 0o10 => one_at_most(bus, regs, at, w, stop),
+        1 => double_words::<Mov, B>(bus, regs, w, stop),
+        2 => double_words::<Cmp, B>(bus, regs, w, stop),
+        3 => double_words::<Bit, B>(bus, regs, w, stop),
+        4 => double_words::<Bic, B>(bus, regs, w, stop),
+        5 => double_words::<Bis, B>(bus, regs, w, stop),
+        6 => carry_sum::<Add, B>(bus, regs, w, stop),
+        0o11 => double_bytes::<Mov, B>(bus, regs, w, stop),
+        0o12 => double_bytes::<Cmp, B>(bus, regs, w, stop),
+        0o13 => double_bytes::<Bit, B>(bus, regs, w, stop),
+        0o14 => double_bytes::<Bic, B>(bus, regs, w, stop),
+        0o15 => double_bytes::<Bis, B>(bus, regs, w, stop),
+        0o16 => carry_sum::<Sub, B>(bus, regs, w, stop),
+        7 | 0o17 => {
             has_one_at_most(w);
             is_no_branch(w);
             has_a_register(w);
             register_or_more(bus, regs, at, w, stop)
         }
+        _ => unreachable!(),
     }
 }

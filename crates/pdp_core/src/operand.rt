@@ -86,8 +86,9 @@ fn stride_of(size: Size, n: u16) -> u16
     }
 }
 
+/// Why an access fails.
 #[inline(always)]
-fn failed(e: Refused) -> Failure
+pub fn failure_of(e: Refused) -> Failure
     ensures { result ≡ of_refused e }
 {
     match e {
@@ -110,7 +111,7 @@ fn fetch_at<B: Bus>(bus: &mut B, at: u16) -> Result<u16, Failure>
 {
     match bus.fetch(at) {
         Ok(w) => Ok(w),
-        Err(e) => Err(failed(e)),
+        Err(e) => Err(failure_of(e)),
     }
 }
 
@@ -123,7 +124,7 @@ pub fn word_at<B: Bus>(bus: &mut B, at: u16) -> Result<u16, Failure>
 {
     match bus.read_word(at) {
         Ok(w) => Ok(w),
-        Err(e) => Err(failed(e)),
+        Err(e) => Err(failure_of(e)),
     }
 }
 
@@ -250,7 +251,7 @@ pub fn load_at<B: Bus>(bus: &mut B, size: Size, regs: &Regs, place: Spot) -> Res
             Size::Word => word_at(bus, a),
             Size::Byte => match bus.read_byte(a) {
                 Ok(b) => Ok(b as u16),
-                Err(e) => Err(failed(e)),
+                Err(e) => Err(failure_of(e)),
             },
         },
         Spot::Code(_, w) => match size {
@@ -270,9 +271,6 @@ pub fn value<B: Bus>(bus: &mut B, size: Size, regs: &mut Regs, n: u16) -> Result
     ensures err { OnErr result (regs.new ≡ regs.old) }
     ensures made { B.accesses bus.new ≡ operand_made (B.world bus.old) size regs.old (operand_of n) (B.accesses bus.old) }
 {
-    if n / 0o10 == 0 {
-        return load_at(bus, size, regs, Spot::Register(n));
-    }
     let kept = get_at(regs, n);
     let at = get(regs, Reg::Pc);
     let place = find(bus, size, regs, n)?;
@@ -294,7 +292,7 @@ pub fn write_word<B: Bus>(bus: &mut B, regs: &Regs, at: u16, x: u16) -> Result<(
 {
     match bus.write_word(at, x) {
         Ok(()) => Ok(()),
-        Err(e) => Err(failed(e)),
+        Err(e) => Err(failure_of(e)),
     }
 }
 
@@ -306,7 +304,7 @@ fn write_byte<B: Bus>(bus: &mut B, regs: &Regs, at: u16, x: u8) -> Result<(), Fa
 {
     match bus.write_byte(at, x) {
         Ok(()) => Ok(()),
-        Err(e) => Err(failed(e)),
+        Err(e) => Err(failure_of(e)),
     }
 }
 

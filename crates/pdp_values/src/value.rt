@@ -5,6 +5,7 @@ ghost use Rattle.rt_words.specs.Word.{differ, extend_sign, with_low_byte};
 ghost use Rattle.pdp_values.specs.Values.{limit, half, negative, plus, minus, one_if, half_if, single_value, single_carry, single_overflow};
 
 use pdp_code::{SingleOp, Size};
+use rt_words::wrap_sub;
 
 /// A value that is shifted bit by bit, the last bit that went out, and whether its sign ever changed.
 #[derive(Clone, Copy)]
@@ -22,12 +23,12 @@ pub fn differ_of(a: bool, b: bool) -> bool
     a != b
 }
 
-/// A byte as a word of the same sign.
+/// A byte as a word of the same sign. In this form it is one instruction of the host.
 #[inline(always)]
 pub fn extend(b: u8) -> u16
     ensures { result ≡ extend_sign b }
 {
-    if b < 128 { b as u16 } else { b as u16 + 65280 }
+    wrap_sub((b as u16 + 128) % 256, 128)
 }
 
 /// A word with another low byte.
