@@ -1,5 +1,5 @@
 -- A task that runs on: instructions one after another.
-use Rattle.std.proofs.Common.{◌≡◌, ℕ, ◌+◌, ◌-◌, ◌*◌, ◌<◌, ◌≤◌, Bool, true, false, List, [], ◌++◌, ◌||◌, length, map, Option, Some, refl, sym, ap, ◌∙◌, subst, arith, append_assoc, append-nil, length-append, ltb-true}
+use Rattle.std.proofs.Common.{◌≡◌, ℕ, ◌+◌, ◌-◌, ◌*◌, ◌<◌, ◌≤◌, Bool, true, false, List, [], ◌++◌, ◌||◌, length, map, Option, Some, refl, sym, ap, ◌∙◌, subst, arith, append_assoc, append-nil, length-append}
 use Rattle.std.specs.Prelude.{slice_get}
 use Rattle.std.specs.Io.KnownBytes.{Keeps}
 use Rattle.pdp_code.specs.declared.instruction.Reg.TheVariants.{Pc}
@@ -24,7 +24,7 @@ use Rattle.rt_run.specs.Boundaries.{State, Made, Over, Faulted, go_by, instructi
 use Rattle.rt_run.specs.Carrying.{Carries, Faulting, IsCarried}
 use Rattle.rt_run.specs.Picture.{ShowsRunning, others_memory, regs_of}
 use Rattle.rt_run.specs.Runs.{Asks}
-use Rattle.rt_run.specs.Turn.{counts, is_gone, ended_by, goes_on as may_go_on, IsReady, IsStopped, Begins, Counted, Goes, Halts, Stretches}
+use Rattle.rt_run.specs.Turn.{counts, is_gone, ended_by, IsReady, IsStopped, Begins, Counted, Goes, Halts, Stretches}
 use Rattle.rt_run.proofs.Feeding.{gives_nothing, gives_more, gives_still, ahead_first, ahead_then, appends, appends_nothing, appends_still, kept_same}
 use Rattle.rt_run.proofs.Settling.{unticked}
 use Rattle.rt_run.proofs.Reaching.{one_later}
@@ -176,13 +176,9 @@ counted_so (Failed kind at) count marks mark most e few m k = record { within = 
 counted_so ReadFault count marks mark most e few m k = record { within = omega (arith, few); marks = m; some = λ h. absurd cc; full = λ h. absurd cc; fewer = λ h. few }
 counted_so WriteFault count marks mark most e few m k = record { within = omega (arith, few); marks = m; some = λ h. absurd cc; full = λ h. absurd cc; fewer = λ h. few }
 
--- a task that goes on carried out its last instruction, and has more before it
-pub goes_done : (x : Carried) (count most : ℕ) → may_go_on x count most ≡ true → (counts x ≡ true) × (count < most)
-goes_done Went count most e = (refl, ltb-true count most e)
-goes_done Served count most e = absurd cc
-goes_done (Failed kind at) count most e = absurd cc
-goes_done ReadFault count most e = absurd cc
-goes_done WriteFault count most e = absurd cc
+-- one instruction more is one less that is left
+pub one_less : (most left : ℕ) → 0 < left → left ≤ most → (most - left) + 1 ≡ most - (left - 1)
+one_less most left some few = omega (arith, some, few)
 
 module _ (x : Carried) (i : ℕ) (from to : Feed) (written written2 : Option (List ℕ)) (g h : Regs) (sh sh2 : Sharing) (r r2 : Roster) where
   pub carries_of : counts x ≡ true → IsCarried x i from written g sh r to written2 h sh2 r2 → Carries i from written g sh r to written2 h sh2 r2
@@ -205,11 +201,11 @@ module _ (x : Carried) (i : ℕ) (from to : Feed) (written written2 : Option (Li
       by ReadFault e c = c.1
       by WriteFault e c = subst (λ (f : Feed). Gives from [] false f) (sym c.1) (gives_nothing from)
 
-  -- where the task goes on the rules are as they were
-  pub same_rules : (count most : ℕ) → may_go_on x count most ≡ true → IsCarried x i from written g sh r to written2 h sh2 r2 → r2 ≡ r
-  same_rules count most e c = by x e c
+  -- where nobody was asked the rules are as they were
+  pub same_rules : is_gone x ≡ true → IsCarried x i from written g sh r to written2 h sh2 r2 → r2 ≡ r
+  same_rules e c = by x e c
     where
-      by : (y : Carried) → may_go_on y count most ≡ true → IsCarried y i from written g sh r to written2 h sh2 r2 → r2 ≡ r
+      by : (y : Carried) → is_gone y ≡ true → IsCarried y i from written g sh r to written2 h sh2 r2 → r2 ≡ r
       by Went e c = c.1
       by Served e c = absurd cc
       by (Failed kind at) e c = absurd cc

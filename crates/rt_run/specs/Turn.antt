@@ -1,5 +1,5 @@
 -- The turn of a task: it carries out some instructions, one after another, with their services. No tick falls between them.
-use Rattle.std.specs.Prelude.{if◌then◌else◌, ◌≡◌, ◌<◌, ◌≤◌, ◌+◌, ◌-◌, ◌*◌, ℕ, nat_lt, Bool, true, false, List, ◌++◌, length, Option, Some, None, slice_get}
+use Rattle.std.specs.Prelude.{if◌then◌else◌, ◌≡◌, ◌<◌, ◌≤◌, ◌+◌, ◌-◌, ◌*◌, ℕ, Bool, true, false, List, ◌++◌, length, Option, Some, None, slice_get}
 use Rattle.std.specs.Io.KnownBytes.{Appends}
 use Rattle.pdp_core.specs.declared.cpu.Regs.{Regs}
 use Rattle.rt_image.specs.declared.image.ImageParts.{ImageParts}
@@ -30,11 +30,6 @@ is_gone _ = false
 -- so many instructions, with their marks, and behind them one with this mark, which ended so
 abbrev pub ended_by : Carried → ℕ → ℕ → ℕ → Stretch
 ended_by x count marks mark = if counts x then record { carried = x; count = count + 1; marks = marks + mark } else record { carried = x; count = count; marks = marks }
-
--- whether the task goes on after so many instructions of at most so many, of which the last one ended so
-abbrev pub goes_on : Carried → ℕ → ℕ → Bool
-goes_on Went count most = nat_lt count most
-goes_on _ count most = false
 
 -- how a turn of task i ends a run where its last instruction isn't carried out
 abbrev pub end_of : Carried → ℕ → End

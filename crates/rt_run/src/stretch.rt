@@ -4,7 +4,7 @@ ghost use Rattle.rt_words.specs.Causes.{Rose};
 ghost use Rattle.rt_rules.specs.Roster.{InRanges};
 ghost use Rattle.rt_rules.specs.Rules as rules;
 ghost use Rattle.rt_run.specs.Inputs.{feed};
-ghost use Rattle.rt_run.specs.Turn.{counts, is_gone, goes_on, ended_by, Counted, Lasts, Stretches};
+ghost use Rattle.rt_run.specs.Turn.{counts, is_gone, ended_by, Counted, Lasts, Stretches};
 
 use crate::carry::{Carried, carry_out};
 use pdp_core::Stop;
@@ -39,7 +39,7 @@ fn has_gone(carried: Carried) -> bool
 
 // The end of a stretch by an instruction that isn't followed by another one: so many came before it, with their marks, and this is its own.
 #[inline(always)]
-fn ended(carried: Carried, count: u32, marks: u64, mark: u64) -> Stretch
+fn ended(carried: Carried, count: u64, marks: u64, mark: u64) -> Stretch
     requires count { count < 4000000000 }
     requires marks { marks ≤ 255 * count }
     requires mark { mark ≤ 255 }
@@ -54,24 +54,13 @@ fn ended(carried: Carried, count: u32, marks: u64, mark: u64) -> Stretch
 
 // A stretch of so many instructions, with their marks.
 #[inline(always)]
-fn so_far(carried: Carried, count: u32, marks: u64) -> Stretch
+fn so_far(carried: Carried, count: u64, marks: u64) -> Stretch
     ensures { result ≡ record { carried = carried; count = count; marks = marks } }
 {
     Stretch {
         carried,
-        count: u64::from(count),
+        count,
         marks,
-    }
-}
-
-// Whether the task goes on after so many instructions of at most so many, of which the last one ended so.
-#[inline(always)]
-fn may_go_on(carried: Carried, count: u32, most: u64) -> bool
-    ensures { result ≡ goes_on carried count most }
-{
-    match carried {
-        Carried::Went => u64::from(count) < most,
-        _ => false,
     }
 }
 
@@ -102,18 +91,19 @@ pub fn run_on<I: Source, O: Sink>(
 {
     clock_and_stamp_stay_low();
     let mut stop = Stop::Went;
-    let mut count: u32 = 0;
-    let mut marks = 0;
+    // How many may still be carried out, up to the limit.
+    let mut left = most as u32;
+    let mut marks: u64 = 0;
     'instructions: loop {
         let mark = u64::from(running.mark());
         let carried = carry_out(running, supervisor, task, input, output, &mut stop);
         if !has_gone(carried) {
-            return ended(carried, count, marks, mark);
+            return ended(carried, most - u64::from(left), marks, mark);
         }
-        count += 1;
         marks += mark;
-        if !may_go_on(carried, count, most) {
-            return so_far(carried, count, marks);
+        left -= 1;
+        if left == 0 {
+            return so_far(carried, most, marks);
         }
     }
 }

@@ -1,4 +1,4 @@
-use Rattle.std.proofs.Common.{refl, sym, subst}
+use Rattle.std.proofs.Common.{sym, subst}
 use Rattle.pdp_core.specs.declared.cpu.Stop.{Stop}
 use Rattle.pdp_core.specs.declared.cpu.Stop.TheVariants.{Went, Trap}
 use Rattle.rt_tasks.specs.Parts.{Sharing}

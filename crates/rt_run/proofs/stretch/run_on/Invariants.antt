@@ -6,15 +6,16 @@ use Rattle.rt_run.proofs.stretch.run_on.Given as goal
 
 abbrev pub invariant-instructions : goal.invariant-instructions
 invariant-instructions g l = record {
-  few : l.count < l.most;
-  marks : l.marks ≤ 255 * l.count;
+  some : 0 < l.left;
+  few : l.left ≤ l.most;
+  marks : l.marks ≤ 255 * (l.most - l.left);
   same_rules : l.supervisor ≡ l.fn.supervisor;
   same_reference : l.running.shared.ghost_name ≡ l.fn.running.shared.ghost_name;
   reads_later : g.I.Source.faults l.fn.input ≤ g.I.Source.faults l.input;
   writes_later : g.O.Sink.faults l.fn.output ≤ g.O.Sink.faults l.output;
-  lasts : Lasts l.fn.running.shared.now l.fn.supervisor l.count l.running.shared.now l.fn.supervisor;
-  way : IsOnTheWay l.task l.most l.count l.marks (feed (g.I.Source.left l.fn.input) (g.I.Source.ended l.fn.input)) (g.O.Sink.written l.fn.output) l.fn.running.regs l.fn.running.shared.now l.fn.supervisor (feed (g.I.Source.left l.input) (g.I.Source.ended l.input)) (g.O.Sink.written l.output) l.running.regs l.running.shared.now;
+  lasts : Lasts l.fn.running.shared.now l.fn.supervisor (l.most - l.left) l.running.shared.now l.fn.supervisor;
+  way : IsOnTheWay l.task l.most (l.most - l.left) l.marks (feed (g.I.Source.left l.fn.input) (g.I.Source.ended l.fn.input)) (g.O.Sink.written l.fn.output) l.fn.running.regs l.fn.running.shared.now l.fn.supervisor (feed (g.I.Source.left l.input) (g.I.Source.ended l.input)) (g.O.Sink.written l.output) l.running.regs l.running.shared.now;
 }
 
 abbrev pub decreases-instructions : goal.decreases-instructions
-decreases-instructions g l = l.most - l.count
+decreases-instructions g l = l.left
