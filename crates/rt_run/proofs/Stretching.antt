@@ -21,7 +21,9 @@ use Rattle.rt_run.specs.declared.carry.Carried.{Carried}
 use Rattle.rt_run.specs.declared.carry.Carried.TheVariants.{Went, Served, Fault as Failed, ReadFault, WriteFault}
 use Rattle.rt_run.specs.Inputs.{Feed, Gives, Ahead}
 use Rattle.rt_run.specs.Boundaries.{State, Made, Over, Faulted, go_by, instruction, landed, instructions, steps, steps_of}
-use Rattle.rt_run.specs.Carrying.{Carries, Faulting, IsCarried}
+use Rattle.pdp_core.specs.declared.cpu.Done.{Done}
+use Rattle.pdp_core.specs.declared.cpu.Done.TheVariants.{Went as Finished, Stopped}
+use Rattle.rt_run.specs.Carrying.{Carries, Faulting, IsCarried, carried_of}
 use Rattle.rt_run.specs.Picture.{ShowsRunning, others_memory, regs_of}
 use Rattle.rt_run.specs.Runs.{Asks}
 use Rattle.rt_run.specs.Turn.{counts, is_gone, ended_by, IsReady, IsStopped, Begins, Counted, Goes, Halts, Stretches}
@@ -169,6 +171,18 @@ ended_so ReadFault count marks mark = refl
 ended_so WriteFault count marks mark = refl
 
 -- and how many were carried out then
+pub gone_went : (x : Carried) → is_gone x ≡ true → x ≡ Went
+gone_went Went e = refl
+gone_went Served e = absurd cc
+gone_went (Failed kind at) e = absurd cc
+gone_went ReadFault e = absurd cc
+gone_went WriteFault e = absurd cc
+
+-- what became of an instruction that hasn't gone is told beside
+pub not_gone : (d : Done) (x : Carried) → is_gone (carried_of d x) ≡ false → carried_of d x ≡ x
+not_gone Finished x e = absurd cc
+not_gone Stopped x e = refl
+
 pub counted_so : (x : Carried) (count marks mark most : ℕ) → is_gone x ≡ false → count < most → marks ≤ 255 * count → mark ≤ 255 → Counted (ended_by x count marks mark) most
 counted_so Went count marks mark most e few m k = absurd cc
 counted_so Served count marks mark most e few m k = record { within = omega (arith, few); marks = omega (arith, m, k); some = λ h. omega arith; full = λ h. absurd cc; fewer = λ h. absurd cc }

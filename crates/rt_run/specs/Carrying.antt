@@ -2,10 +2,12 @@
 use Rattle.std.specs.Prelude.{◌≡◌, ◌≢◌, ℕ, ◌+◌, ◌%◌, Bool, true, false, List, [], ◌∷◌, ◌++◌, length, slice_get, Option, Some, None, Result, Ok, Err}
 use Rattle.std.specs.Io.KnownBytes.{Keeps, Appends}
 use Rattle.pdp_code.specs.declared.instruction.Reg.TheVariants.{Pc, R0}
+use Rattle.pdp_core.specs.declared.cpu.Done.{Done}
+use Rattle.pdp_core.specs.declared.cpu.Done.TheVariants.{Went as Finished, Stopped}
 use Rattle.pdp_core.specs.declared.cpu.Kind.{Kind}
 use Rattle.pdp_core.specs.declared.cpu.Regs.{Regs}
 use Rattle.pdp_core.specs.declared.cpu.Stop.{Stop}
-use Rattle.pdp_core.specs.declared.cpu.Stop.TheVariants.{Trap, Fault}
+use Rattle.pdp_core.specs.declared.cpu.Stop.TheVariants.{Went as Went_on, Trap, Fault}
 use Rattle.pdp_core.specs.Execute.{reg, with_reg}
 use Rattle.rt_rules.specs.Roster.{Roster}
 use Rattle.rt_tasks.specs.Parts.{Sharing}
@@ -86,13 +88,38 @@ IsAsked (Err ReadFault) n from written g to written2 = (n ≡ 1) × Gives from [
 IsAsked (Err WriteFault) n from written g to written2 = (n ≡ 2) × (to ≡ from) × Keeps written written2
 IsAsked _ n from written g to written2 = ⊥
 
--- ---- the ways in which an instruction ends
-
 -- the service of TRAP n for task i, for which the console granted this
 abbrev pub IsServedBy : Carried → Granted → ℕ → ℕ → Roster → Regs → Roster → Regs → Type 0
 IsServedBy x Nothing i n r g r2 h = (x ≡ Served) × IsServed i n r g r2 h
 IsServedBy x (Gave v) i n r g r2 h = (x ≡ Went) × (h ≡ with_reg g R0 v) × (r2 ≡ r)
 IsServedBy x Took i n r g r2 h = (x ≡ Went) × (h ≡ g) × (r2 ≡ r)
+
+-- ---- what a stop comes to
+
+-- how an instruction ended, of which the code tells beside what became of one that was stopped
+abbrev pub carried_of : Done → Carried → Carried
+carried_of Finished x = Went
+carried_of Stopped x = x
+
+-- the service of TRAP n for task i, whose word stands at an address, for which the console granted this or failed so
+abbrev pub EndsBy : Result Granted Carried → Carried → ℕ → ℕ → ℕ → Regs → Roster → Regs → Roster → Type 0
+EndsBy (Ok w) x i n at g r h r2 = IsServedBy x w i n r g r2 h
+EndsBy (Err e) x i n at g r h r2 = (x ≡ e) × (h ≡ with_reg g Pc at) × (r2 ≡ r)
+
+-- TRAP n of task i was answered so
+pub record IsTrapAnswered (n : ℕ) (x : Carried) (i at : ℕ) (from : Feed) (written : Option (List ℕ)) (g : Regs) (r : Roster) (to : Feed) (written2 : Option (List ℕ)) (h : Regs) (r2 : Roster) : Type 0 where
+  pub granted : Result Granted Carried
+  pub asked : IsAsked granted n from written g to written2
+  pub ends : EndsBy granted x i n at g r h r2
+
+-- this is what a stop of task i comes to, of an instruction that stood at an address: what the console, the task and the rules were behind
+-- the instruction, and what they are then
+abbrev pub IsAnswered : Stop → Carried → ℕ → ℕ → Feed → Option (List ℕ) → Regs → Roster → Feed → Option (List ℕ) → Regs → Roster → Type 0
+IsAnswered Went_on x i at from written g r to written2 h r2 = (x ≡ Went) × (to ≡ from) × (written2 ≡ written) × (h ≡ g) × (r2 ≡ r)
+IsAnswered (Trap n) x i at from written g r to written2 h r2 = IsTrapAnswered n x i at from written g r to written2 h r2
+IsAnswered (Fault kind a) x i at from written g r to written2 h r2 = (x ≡ Failed kind a) × (to ≡ from) × (written2 ≡ written) × (h ≡ g) × (r2 ≡ r)
+
+-- ---- the ways in which an instruction ends
 
 -- TRAP 1, which got this number
 pub record Given (n : ℕ) (g : Regs) (s : Sharing) (h : Regs) (s2 : Sharing) : Type 0 where

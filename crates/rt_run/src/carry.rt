@@ -5,7 +5,7 @@ ghost use Rattle.pdp_code.specs.declared.instruction.Reg.TheVariants.{Pc, R0};
 ghost use Rattle.pdp_core.specs.Execute.{reg};
 ghost use Rattle.rt_rules.specs.Rules as rules;
 ghost use Rattle.rt_run.specs.Inputs.{feed};
-ghost use Rattle.rt_run.specs.Carrying.{IsServed, IsRead, IsWritten, IsAsked, IsGranted, IsServedBy, IsCarried};
+ghost use Rattle.rt_run.specs.Carrying.{IsServed, IsRead, IsWritten, IsAsked, IsGranted, IsServedBy, IsAnswered, IsCarried, carried_of};
 
 use crate::service::{Answer, answer_of, give, service_of};
 use pdp_core::{Done, Kind, Stop};
@@ -134,8 +134,45 @@ fn serve(
     }
 }
 
-/// One instruction of the running task, with its service. What stopped it is put into a place that is lent. A TRAP changes the program counter alone, so that its task goes back to it
-/// where the console fails. It takes no memory.
+// What a stop comes to, of an instruction that stood at an address: the service of a TRAP, or that nothing is done. It is told in a place that is lent. A TRAP changes
+// the program counter alone, so that its task goes back to it where the console fails.
+#[inline(never)]
+fn settle<I: Source, O: Sink>(
+    running: &mut Running,
+    supervisor: &mut Supervisor,
+    task: u8,
+    input: &mut I,
+    output: &mut O,
+    stop: Stop,
+    at: u16,
+    carried: &mut Carried,
+)
+    requires runs { rules.running supervisor.old ≡ Some task }
+    requires stamp { supervisor.old.stamp < 2 ^ 63 }
+    requires clock { supervisor.old.clock < 2 ^ 32 - 1 }
+    ensures answered { IsAnswered stop carried.new task at (feed (I.left input.old) (I.ended input.old)) (O.written output.old) running.old.regs supervisor.old (feed (I.left input.new) (I.ended input.new)) (O.written output.new) running.new.regs supervisor.new }
+    ensures shared { running.new.shared.now ≡ running.old.shared.now }
+    ensures read_failed { carried.new ≡ Carried.ReadFault → Rose (I.faults input.old) (I.faults input.new) }
+    ensures write_failed { carried.new ≡ Carried.WriteFault → Rose (O.faults output.old) (O.faults output.new) }
+    ensures reads_later { I.faults input.old ≤ I.faults input.new }
+    ensures writes_later { O.faults output.old ≤ O.faults output.new }
+    ensures same_reference { running.new.shared.ghost_name ≡ running.old.shared.ghost_name }
+{
+    match stop {
+        Stop::Went => *carried = Carried::Went,
+        Stop::Trap(number) => match ask(running, number, input, output) {
+            Ok(granted) => *carried = serve(running, supervisor, task, number, granted),
+            Err(refused) => {
+                running.go_back(at);
+                *carried = refused;
+            }
+        },
+        Stop::Fault(kind, address) => *carried = Carried::Fault(kind, address),
+    }
+}
+
+/// One instruction of the running task, with its service. What stopped it is put into a place that is lent, and what became of it into
+/// another; of one that went on they say nothing, and need not be cleared for each instruction. It takes no memory.
 #[inline(always)]
 pub fn carry_out<I: Source, O: Sink>(
     running: &mut Running,
@@ -144,30 +181,24 @@ pub fn carry_out<I: Source, O: Sink>(
     input: &mut I,
     output: &mut O,
     stop: &mut Stop,
-) -> Carried
+    carried: &mut Carried,
+) -> Done
     requires runs { rules.running supervisor.old ≡ Some task }
     requires stamp { supervisor.old.stamp < 2 ^ 63 }
     requires clock { supervisor.old.clock < 2 ^ 32 - 1 }
-    ensures carried { IsCarried result task (feed (I.left input.old) (I.ended input.old)) (O.written output.old) running.old.regs running.old.shared.now supervisor.old (feed (I.left input.new) (I.ended input.new)) (O.written output.new) running.new.regs running.new.shared.now supervisor.new }
-    ensures read_failed { result ≡ Carried.ReadFault → Rose (I.faults input.old) (I.faults input.new) }
-    ensures write_failed { result ≡ Carried.WriteFault → Rose (O.faults output.old) (O.faults output.new) }
+    ensures carried { IsCarried (carried_of result carried.new) task (feed (I.left input.old) (I.ended input.old)) (O.written output.old) running.old.regs running.old.shared.now supervisor.old (feed (I.left input.new) (I.ended input.new)) (O.written output.new) running.new.regs running.new.shared.now supervisor.new }
+    ensures read_failed { carried_of result carried.new ≡ Carried.ReadFault → Rose (I.faults input.old) (I.faults input.new) }
+    ensures write_failed { carried_of result carried.new ≡ Carried.WriteFault → Rose (O.faults output.old) (O.faults output.new) }
     ensures reads_later { I.faults input.old ≤ I.faults input.new }
     ensures writes_later { O.faults output.old ≤ O.faults output.new }
     ensures same_reference { running.new.shared.ghost_name ≡ running.old.shared.ghost_name }
 {
     let at = running.counter();
     match running.carry_on(stop) {
-        Done::Went => Carried::Went,
-        Done::Stopped => match *stop {
-            Stop::Went => Carried::Went,
-            Stop::Trap(number) => match ask(running, number, input, output) {
-                Ok(granted) => serve(running, supervisor, task, number, granted),
-                Err(refused) => {
-                    running.go_back(at);
-                    refused
-                }
-            },
-            Stop::Fault(kind, address) => Carried::Fault(kind, address),
-        },
+        Done::Went => Done::Went,
+        Done::Stopped => {
+            settle(running, supervisor, task, input, output, *stop, at, carried);
+            Done::Stopped
+        }
     }
 }

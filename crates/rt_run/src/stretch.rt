@@ -4,10 +4,11 @@ ghost use Rattle.rt_words.specs.Causes.{Rose};
 ghost use Rattle.rt_rules.specs.Roster.{InRanges};
 ghost use Rattle.rt_rules.specs.Rules as rules;
 ghost use Rattle.rt_run.specs.Inputs.{feed};
+ghost use Rattle.rt_run.specs.Carrying.{carried_of};
 ghost use Rattle.rt_run.specs.Turn.{counts, is_gone, ended_by, Counted, Lasts, Stretches};
 
 use crate::carry::{Carried, carry_out};
-use pdp_core::Stop;
+use pdp_core::{Done, Stop};
 use rt_outside::{Sink, Source};
 use rt_rules::clock_and_stamp_stay_low;
 use rt_super::Supervisor;
@@ -31,10 +32,13 @@ pub fn is_done(carried: Carried) -> bool
 
 // Whether it was carried out, and asked nobody.
 #[inline(always)]
-fn has_gone(carried: Carried) -> bool
-    ensures { result ≡ is_gone carried }
+fn has_gone(done: Done, carried: &Carried) -> bool
+    ensures { result ≡ is_gone (carried_of done carried.now) }
 {
-    matches!(carried, Carried::Went)
+    match done {
+        Done::Went => true,
+        Done::Stopped => matches!(*carried, Carried::Went),
+    }
 }
 
 // The end of a stretch by an instruction that isn't followed by another one: so many came before it, with their marks, and this is its own.
@@ -65,7 +69,8 @@ fn so_far(carried: Carried, count: u64, marks: u64) -> Stretch
 }
 
 /// Lets the running task carry out instructions up to one that asks the supervisor or can't be carried out, or up to so many. It
-/// takes no memory, and while they go on it touches no queue and no tick.
+/// takes no memory, and while they go on it touches no queue and no tick. It is a function of its own, so that the loop has the host's registers to itself.
+#[inline(never)]
 pub fn run_on<I: Source, O: Sink>(
     running: &mut Running,
     supervisor: &mut Supervisor,
@@ -91,19 +96,28 @@ pub fn run_on<I: Source, O: Sink>(
 {
     clock_and_stamp_stay_low();
     let mut stop = Stop::Went;
+    let mut carried = Carried::Went;
     // How many may still be carried out, up to the limit.
     let mut left = most as u32;
     let mut marks: u64 = 0;
     'instructions: loop {
         let mark = u64::from(running.mark());
-        let carried = carry_out(running, supervisor, task, input, output, &mut stop);
-        if !has_gone(carried) {
+        let done = carry_out(
+            running,
+            supervisor,
+            task,
+            input,
+            output,
+            &mut stop,
+            &mut carried,
+        );
+        if !has_gone(done, &carried) {
             return ended(carried, most - u64::from(left), marks, mark);
         }
         marks += mark;
         left -= 1;
         if left == 0 {
-            return so_far(carried, most, marks);
+            return so_far(Carried::Went, most, marks);
         }
     }
 }
