@@ -137,7 +137,7 @@ fn serve(
 // What a stop comes to, of an instruction that stood at an address: the service of a TRAP, or that nothing is done. It is told in a place that is lent. A TRAP changes
 // the program counter alone, so that its task goes back to it where the console fails.
 #[inline(never)]
-fn settle<I: Source, O: Sink>(
+fn answer_stop<I: Source, O: Sink>(
     running: &mut Running,
     supervisor: &mut Supervisor,
     task: u8,
@@ -197,7 +197,7 @@ pub fn carry_out<I: Source, O: Sink>(
     match running.carry_on(stop) {
         Done::Went => Done::Went,
         Done::Stopped => {
-            settle(running, supervisor, task, input, output, *stop, at, carried);
+            answer_stop(running, supervisor, task, input, output, *stop, at, carried);
             Done::Stopped
         }
     }

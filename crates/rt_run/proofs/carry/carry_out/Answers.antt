@@ -17,7 +17,7 @@ pub returns-in-Stopped-clause-carried : goal.returns-in-Stopped-clause-carried
 returns-in-Stopped-clause-carried g c =
     let before = c.args.running.now in
     let mid = c.carry_on.new.self in
-    let n = c.settle in
+    let n = c.answer_stop in
     let from = feed (g.I.Source.left c.args.input.now) (g.I.Source.ended c.args.input.now) in
     let to = feed (g.I.Source.left n.new.input) (g.I.Source.ended n.new.input) in
     let written = g.O.Sink.written c.args.output.now in

@@ -3,7 +3,7 @@ use Rattle.std.proofs.Common.{refl, subst, sym}
 use Rattle.pdp_core.specs.declared.cpu.Stop.{Stop}
 use Rattle.rt_run.specs.Inputs.{feed}
 use Rattle.rt_run.specs.Carrying.{IsAnswered}
-use Rattle.rt_run.proofs.carry.settle.Goals as goal
+use Rattle.rt_run.proofs.carry.answer_stop.Goals as goal
 
 pub returns-in-Ok-clause-answered : goal.returns-in-Ok-clause-answered
 returns-in-Ok-clause-answered g c =
