@@ -1,5 +1,5 @@
 -- What the address of an operand changes of the registers is given back.
-use Rattle.std.proofs.Common.{◌≡◌, ℕ, zero, suc, ◌<◌, ◌/◌, ◌%◌, List, [], ◌∷◌, Bool, true, false, ◌==◌, if◌then◌else◌, Result, Ok, Err, refl, ap, subst, ◌∙◌, arith}
+use Rattle.std.proofs.Common.{◌≡◌, ℕ, zero, suc, ◌<◌, ◌/◌, ◌%◌, List, [], ◌∷◌, Bool, true, false, ◌==◌, if◌then◌else◌, Result, Ok, Err, refl, sym, ap, subst, ◌∙◌, arith}
 use Rattle.std.specs.Prelude.{slice_index, slice_set}
 use Rattle.std.proofs.Math.Seq.{set-set}
 use Rattle.std.proofs.lemmas.List.{set-get_or}
@@ -16,6 +16,7 @@ use Rattle.pdp_core.specs.declared.cpu.Failure.{Failure}
 use Rattle.pdp_core.specs.declared.cpu.Place.{Place}
 use Rattle.pdp_core.specs.declared.cpu.Place.TheVariants.{InMemory, InCode}
 use Rattle.pdp_core.specs.World.{World}
+use Rattle.pdp_core.specs.Kept.{AllButCounter}
 use Rattle.pdp_core.specs.Execute.{and_then, reg, with_reg, pointer_reg, stride, fetch, load_word, past_word, next_word, address, load, operand}
 
 -- one word of a list given back, and two
@@ -29,15 +30,28 @@ twice (x ∷ xs) zero (suc j) a = ap (λ (r : List ℕ). x ∷ r) (once xs j a)
 twice (x ∷ xs) (suc i) zero a = ap (λ (r : List ℕ). x ∷ r) (set-get_or xs i 0)
 twice (x ∷ xs) (suc i) (suc j) a = ap (λ (r : List ℕ). x ∷ r) (twice xs i j a)
 
+-- a word that is put where another one was put before
+over : (l : List ℕ) (i j a b c : ℕ) → slice_set (slice_set (slice_set l j a) i b) j c ≡ slice_set (slice_set l i b) j c
+over [] i j a b c = refl
+over (x ∷ xs) zero zero a b c = refl
+over (x ∷ xs) zero (suc j) a b c = ap (λ (r : List ℕ). b ∷ r) (set-set xs j a c)
+over (x ∷ xs) (suc i) zero a b c = refl
+over (x ∷ xs) (suc i) (suc j) a b c = ap (λ (r : List ℕ). x ∷ r) (over xs i j a b c)
+
 -- the registers h with the words that a register and the program counter have in g
 abbrev pub given_back : Regs → Regs → Reg → Regs
 given_back g h r = with_reg (with_reg h r (reg g r)) Pc (reg g Pc)
 
-counter_itself : (g : Regs) → with_reg g Pc (reg g Pc) ≡ g
+pub counter_itself : (g : Regs) → AllButCounter g g
 counter_itself g = ap (λ (l : List ℕ). record g { r = l }) (set-get_or g.r 7 0)
 
-pub counter_back : (g : Regs) (a : ℕ) → with_reg (with_reg g Pc a) Pc (reg g Pc) ≡ g
+counter_back : (g : Regs) (a : ℕ) → AllButCounter g (with_reg g Pc a)
 counter_back g a = ap (λ (l : List ℕ). record g { r = l }) (once g.r 7 a)
+
+-- with registers that differ from those that were stepped on in the program counter alone
+pub counter_stepped : (g k : Regs) (a : ℕ) → AllButCounter (with_reg g Pc a) k → AllButCounter g k
+counter_stepped g k a near =
+    sym (ap (λ (l : List ℕ). record k { r = l }) (set-set k.r 7 (reg (with_reg g Pc a) Pc) (reg g Pc))) ∙ ap (λ (m : Regs). with_reg m Pc (reg g Pc)) near ∙ counter_back g a
 
 after_none : (g : Regs) (r : Reg) → given_back g g r ≡ g
 after_none g r = ap (λ (l : List ℕ). record g { r = slice_set l 7 (slice_index g.r 7) }) (set-get_or g.r (reg_code r) 0) ∙ counter_itself g
@@ -128,12 +142,17 @@ read_given_back w z g n x h e = subst (λ (r : Reg). given_back g h r ≡ g) (re
 
 -- what the next word was fetched with
 abbrev Behind : Regs → Result (ℕ × Regs) Failure → Type 0
-Behind g (Ok p) = with_reg p.1 Pc (reg g Pc) ≡ g
+Behind g (Ok p) = AllButCounter g p.1
 Behind g (Err e) = Unit {0}
 
-pub word_given_back : (w : World) (g : Regs) (x : ℕ) (h : Regs) → next_word w g ≡ Ok (x, h) → with_reg h Pc (reg g Pc) ≡ g
-word_given_back w g x h e = subst (λ (m : Result (ℕ × Regs) Failure). Behind g m) e (elim (fetch w (reg g Pc)) as (λ (m : Result ℕ Failure). Behind g (and_then m (λ v. Ok (v, past_word g)))) [ Ok v ↦ ap (λ (l : List ℕ). record g { r = l }) (once g.r 7 (wrap_add (reg g Pc) 2)) | Err f ↦ tt ])
+pub word_given_back : (w : World) (g : Regs) (x : ℕ) (h : Regs) → next_word w g ≡ Ok (x, h) → AllButCounter g h
+word_given_back w g x h e = subst (λ (m : Result (ℕ × Regs) Failure). Behind g m) e (elim (fetch w (reg g Pc)) as (λ (m : Result ℕ Failure). Behind g (and_then m (λ v. Ok (v, past_word g)))) [ Ok v ↦ counter_back g (wrap_add (reg g Pc) 2) | Err f ↦ tt ])
 
--- two words that were put back
-pub undone : (g h k : Regs) (r : Reg) (x at : ℕ) → given_back g h r ≡ g → x ≡ reg g r → at ≡ reg g Pc → k ≡ with_reg (with_reg h r x) Pc at → k ≡ g
-undone g h k r x at back first second put = put ∙ ap (λ (v : ℕ). with_reg (with_reg h r v) Pc at) first ∙ ap (λ (v : ℕ). with_reg (with_reg h r (reg g r)) Pc v) second ∙ back
+-- a word that was put back, where what followed has changed the program counter at most
+pub undone : (g h k m : Regs) (r : Reg) (x : ℕ) → given_back g h r ≡ g → AllButCounter h k → x ≡ reg g r → m ≡ with_reg k r x → AllButCounter g m
+undone g h k m r x back near first put =
+    ap (λ (v : Regs). with_reg v Pc (reg g Pc)) put
+    ∙ ap (λ (v : ℕ). with_reg (with_reg k r v) Pc (reg g Pc)) first
+    ∙ sym (ap (λ (l : List ℕ). record k { r = l }) (over k.r (reg_code r) 7 (reg h Pc) (reg g r) (reg g Pc)))
+    ∙ ap (λ (v : Regs). with_reg (with_reg v r (reg g r)) Pc (reg g Pc)) near
+    ∙ back

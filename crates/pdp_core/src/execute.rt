@@ -1,5 +1,5 @@
 // The instructions.
-ghost use Rattle.std.specs.Prelude.{◌≡◌, ◌+◌, ◌-◌, ◌*◌, ◌/◌, ◌%◌, ◌<◌, ◌^◌, OnErr, bit_or, false};
+ghost use Rattle.std.specs.Prelude.{◌≡◌, ◌+◌, ◌-◌, ◌*◌, ◌/◌, ◌%◌, ◌<◌, ◌^◌, OnErr, bit_or, false, true};
 ghost use Rattle.pdp_code.specs.First.{operand_of};
 ghost use Rattle.pdp_code.specs.declared.instruction.Instr.{Instr};
 ghost use Rattle.pdp_core.specs.Accesses.{store_made, update_made, double_made, single_end_made, single_read_made, single_made, at_place, after, word_made, register_made, push_made, pop_made, perform_made, execute_made};
@@ -8,14 +8,18 @@ ghost use Rattle.pdp_code.specs.declared.instruction.Reg.TheVariants.{Pc};
 ghost use Rattle.pdp_values.specs.Values.{limit, single_value};
 ghost use Rattle.pdp_core.specs.Execute.{failure, address, and_then, store, move as move_of, double, sum, single, single_read, single_end, single_flags, on_word as on_word_of, on_register, is_odd_pair, left, holds, branch, loop, target, call, return_by, double_step, sum_step, single_step, word_step, register_step, jump_step, call_step, perform as perform_of, plan, trap, execute, reg, with_reg};
 ghost use Rattle.pdp_core.specs.Told.{told, stop_of};
+ghost use Rattle.pdp_core.specs.Kept.{AllButCounter, turned_back};
 
 use crate::cpu::{Done, Failure, Kind, Regs, Spot, Stop};
-use crate::flags::{mark, set_by_change, set_by_difference, set_by_sum, set_by_value, set_flags};
+use crate::ends::Ends;
+use crate::flags::{
+    mark, set_but_carry, set_by_change, set_by_difference, set_by_sum, set_by_value, set_flags,
+};
 use crate::groups::carry_out;
 use crate::memory::Bus;
 use crate::operand::{
-    failure_of, find, get, get_at, index, load_at, set, set_at, store_at, store_word, undo, value,
-    word_at, write_word,
+    failure_of, find, get, get_at, index, load_at, set, set_at, stepped_down, store_at, store_word,
+    value, word_at, write_word,
 };
 use crate::pairs::{divide, get_pair, set_product, set_shifted, set_shifted_pair};
 use pdp_code::{Condition, DoubleOp, Reg, RegisterOp, SingleOp, Size, SumOp, WordOp};
@@ -25,13 +29,13 @@ use pdp_values::{
 };
 use rt_words::{wrap_add, wrap_sub};
 
-// What an operand's address changed is given back where what follows fails.
+// The register that an operand's address changed is given back where what follows fails. The program counter is given back last of all, for the whole instruction.
 macro_rules! or_undo {
-    ($answer:expr, $regs:ident, $operand:expr, $kept:expr, $at:expr) => {
+    ($answer:expr, $regs:ident, $operand:expr, $kept:expr) => {
         match $answer {
             Ok(()) => Ok(()),
             Err(failure) => {
-                undo($regs, $operand, $kept, $at);
+                set_at($regs, $operand, $kept);
                 Err(failure)
             }
         }
@@ -71,11 +75,10 @@ fn two<O: OnTwo, Z: Width, B: Bus>(
     ensures kept { OnErr result (regs.new ≡ regs.old) }
     ensures made { B.accesses bus.new ≡ double_made (B.world bus.old) regs.old O.OP Z.SIZE (place_of d) (B.accesses bus.old) }
 {
-    let c = regs.c;
     match O::OP {
         DoubleOp::Mov => {
             move_to(bus, regs, Z::SIZE, x, d)?;
-            set_by_value(regs, Z::SIZE, x, false, c);
+            set_but_carry(regs, Z::SIZE, x);
             Ok(())
         }
         DoubleOp::Cmp => {
@@ -85,21 +88,21 @@ fn two<O: OnTwo, Z: Width, B: Bus>(
         }
         DoubleOp::Bit => {
             let y = load_at(bus, Z::SIZE, regs, d)?;
-            set_by_value(regs, Z::SIZE, y & x, false, c);
+            set_but_carry(regs, Z::SIZE, y & x);
             Ok(())
         }
         DoubleOp::Bic => {
             let y = load_at(bus, Z::SIZE, regs, d)?;
             let z = clear_bits(y, x);
             store_at(bus, Z::SIZE, regs, d, z)?;
-            set_by_value(regs, Z::SIZE, z, false, c);
+            set_but_carry(regs, Z::SIZE, z);
             Ok(())
         }
         DoubleOp::Bis => {
             let y = load_at(bus, Z::SIZE, regs, d)?;
             let z = join(Z::SIZE, y, x);
             store_at(bus, Z::SIZE, regs, d, z)?;
-            set_by_value(regs, Z::SIZE, z, false, c);
+            set_but_carry(regs, Z::SIZE, z);
             Ok(())
         }
     }
@@ -312,9 +315,8 @@ fn with_register<B: Bus>(
         }
         RegisterOp::Xor => {
             let y = x ^ before;
-            let c = regs.c;
             store_word(bus, regs, s, y)?;
-            set_by_value(regs, Size::Word, y, false, c);
+            set_but_carry(regs, Size::Word, y);
             Ok(())
         }
     }
@@ -459,7 +461,7 @@ pub fn ask<B: Bus>(bus: &B, regs: &Regs, at: u16, n: u8, stop: &mut Stop) -> Don
 /// A source's value and a destination, of words or bytes.
 #[tactic(auto, using(crate::proofs::Undoing::found_given_back))]
 #[inline(always)]
-fn two_to<O: OnTwo, Z: Width, B: Bus>(
+fn two_at<O: OnTwo, Z: Width, B: Bus>(
     bus: &mut B,
     regs: &mut Regs,
     x: u16,
@@ -468,222 +470,147 @@ fn two_to<O: OnTwo, Z: Width, B: Bus>(
     requires { x < limit Z.SIZE }
     ensures value { and_then (address (B.world bus.old) Z.SIZE regs.old (operand_of d)) (λ p. double (B.world bus.old) p.1 O.OP Z.SIZE x p.0) ≡ left result regs.new (B.world bus.new) }
     ensures err { OnErr result (B.world bus.new ≡ B.world bus.old) }
-    ensures kept { OnErr result (regs.new ≡ regs.old) }
+    ensures kept { OnErr result (AllButCounter regs.old regs.new) }
     ensures made { B.accesses bus.new ≡ at_place (B.world bus.old) Z.SIZE regs.old (operand_of d) (λ h. double_made (B.world bus.old) h O.OP Z.SIZE) (B.accesses bus.old) }
 {
     let kept = get_at(regs, d);
-    let at = get(regs, Reg::Pc);
     let place = find(bus, Z::SIZE, regs, d)?;
-    or_undo!(two::<O, Z, B>(bus, regs, x, place), regs, d, kept, at)
+    or_undo!(two::<O, Z, B>(bus, regs, x, place), regs, d, kept)
+}
+
+/// A value moved to where a register points once it is stepped down, as the stack grows. The register is given its word last, so that nothing is to be given back.
+#[inline(always)]
+fn push<Z: Width, B: Bus>(bus: &mut B, regs: &mut Regs, x: u16, d: u16) -> Result<(), Failure>
+    requires small { x < limit Z.SIZE }
+    requires down { d / 8 ≡ 4 }
+    ensures value { and_then (address (B.world bus.old) Z.SIZE regs.old (operand_of d)) (λ p. double (B.world bus.old) p.1 DoubleOp.Mov Z.SIZE x p.0) ≡ left result regs.new (B.world bus.new) }
+    ensures err { OnErr result (B.world bus.new ≡ B.world bus.old) }
+    ensures kept { OnErr result (regs.new ≡ regs.old) }
+    ensures made { B.accesses bus.new ≡ at_place (B.world bus.old) Z.SIZE regs.old (operand_of d) (λ h. double_made (B.world bus.old) h DoubleOp.Mov Z.SIZE) (B.accesses bus.old) }
+{
+    let a = stepped_down(regs, Z::SIZE, d);
+    move_to(bus, regs, Z::SIZE, x, Spot::Memory(a))?;
+    set_but_carry(regs, Z::SIZE, x);
+    set_at(regs, d, a);
+    Ok(())
+}
+
+/// The same, with a way of its own for what is pushed.
+#[tactic(auto, using(crate::proofs::Undoing::counter_itself))]
+#[inline(always)]
+fn two_to<O: OnTwo, Z: Width, E: Ends, B: Bus>(
+    bus: &mut B,
+    regs: &mut Regs,
+    x: u16,
+    d: u16,
+) -> Result<(), Failure>
+    requires small { x < limit Z.SIZE }
+    requires target { E.TARGET ≡ true → d / 8 ≡ 0 }
+    ensures value { and_then (address (B.world bus.old) Z.SIZE regs.old (operand_of d)) (λ p. double (B.world bus.old) p.1 O.OP Z.SIZE x p.0) ≡ left result regs.new (B.world bus.new) }
+    ensures err { OnErr result (B.world bus.new ≡ B.world bus.old) }
+    ensures kept { OnErr result (AllButCounter regs.old regs.new) }
+    ensures made { B.accesses bus.new ≡ at_place (B.world bus.old) Z.SIZE regs.old (operand_of d) (λ h. double_made (B.world bus.old) h O.OP Z.SIZE) (B.accesses bus.old) }
+{
+    if E::TARGET {
+        return two::<O, Z, B>(bus, regs, x, Spot::Register(d));
+    }
+    match O::OP {
+        DoubleOp::Mov if d / 0o10 == 4 => push::<Z, B>(bus, regs, x, d),
+        _ => two_at::<O, Z, B>(bus, regs, x, d),
+    }
 }
 
 /// A source and a destination, of words or bytes.
 #[inline(always)]
-pub fn do_double<O: OnTwo, Z: Width, B: Bus>(
+pub fn do_double<O: OnTwo, Z: Width, E: Ends, B: Bus>(
     bus: &mut B,
     regs: &mut Regs,
     s: u16,
     d: u16,
 ) -> Result<(), Failure>
+    requires source { E.SOURCE ≡ true → s / 8 ≡ 0 }
+    requires target { E.TARGET ≡ true → d / 8 ≡ 0 }
     ensures value { double_step (B.world bus.old) regs.old O.OP Z.SIZE (operand_of s) (operand_of d) ≡ left result regs.new (B.world bus.new) }
     ensures err { OnErr result (B.world bus.new ≡ B.world bus.old) }
-    ensures kept { OnErr result (regs.new ≡ regs.old) }
+    ensures kept { OnErr result (AllButCounter regs.old regs.new) }
     ensures made { B.accesses bus.new ≡ perform_made 0 (B.world bus.old) regs.old (Instr.Double O.OP Z.SIZE (operand_of s) (operand_of d)) (B.accesses bus.old) }
 {
+    if E::SOURCE {
+        let x = load_at(bus, Z::SIZE, regs, Spot::Register(s))?;
+        return two_to::<O, Z, E, B>(bus, regs, x, d);
+    }
     let kept = get_at(regs, s);
-    let at = get(regs, Reg::Pc);
     let x = value(bus, Z::SIZE, regs, s)?;
-    or_undo!(two_to::<O, Z, B>(bus, regs, x, d), regs, s, kept, at)
+    or_undo!(two_to::<O, Z, E, B>(bus, regs, x, d), regs, s, kept)
 }
 
 /// A source's value and a destination, of words alone.
-#[tactic(auto, using(crate::proofs::Undoing::found_given_back))]
+#[tactic(auto, using(crate::proofs::Undoing::counter_itself, crate::proofs::Undoing::found_given_back))]
 #[inline(always)]
-fn total_to<O: OnSum, B: Bus>(bus: &mut B, regs: &mut Regs, x: u16, d: u16) -> Result<(), Failure>
+fn total_to<O: OnSum, E: Ends, B: Bus>(
+    bus: &mut B,
+    regs: &mut Regs,
+    x: u16,
+    d: u16,
+) -> Result<(), Failure>
+    requires target { E.TARGET ≡ true → d / 8 ≡ 0 }
     ensures value { and_then (address (B.world bus.old) Size.Word regs.old (operand_of d)) (λ p. sum (B.world bus.old) p.1 O.OP x p.0) ≡ left result regs.new (B.world bus.new) }
     ensures err { OnErr result (B.world bus.new ≡ B.world bus.old) }
-    ensures kept { OnErr result (regs.new ≡ regs.old) }
+    ensures kept { OnErr result (AllButCounter regs.old regs.new) }
     ensures made { B.accesses bus.new ≡ at_place (B.world bus.old) Size.Word regs.old (operand_of d) (λ h. update_made (B.world bus.old) Size.Word h) (B.accesses bus.old) }
 {
+    if E::TARGET {
+        return total::<O, B>(bus, regs, x, Spot::Register(d));
+    }
     let kept = get_at(regs, d);
-    let at = get(regs, Reg::Pc);
     let place = find(bus, Size::Word, regs, d)?;
-    or_undo!(total::<O, B>(bus, regs, x, place), regs, d, kept, at)
-}
-
-/// The same of two registers.
-#[inline(always)]
-pub fn do_double_in_registers<O: OnTwo, Z: Width, B: Bus>(
-    bus: &mut B,
-    regs: &mut Regs,
-    s: u16,
-    d: u16,
-) -> Result<(), Failure>
-    requires source { s / 8 ≡ 0 }
-    requires target { d / 8 ≡ 0 }
-    ensures value { double_step (B.world bus.old) regs.old O.OP Z.SIZE (operand_of s) (operand_of d) ≡ left result regs.new (B.world bus.new) }
-    ensures err { OnErr result (B.world bus.new ≡ B.world bus.old) }
-    ensures kept { OnErr result (regs.new ≡ regs.old) }
-    ensures made { B.accesses bus.new ≡ perform_made 0 (B.world bus.old) regs.old (Instr.Double O.OP Z.SIZE (operand_of s) (operand_of d)) (B.accesses bus.old) }
-{
-    let x = load_at(bus, Z::SIZE, regs, Spot::Register(s))?;
-    two::<O, Z, B>(bus, regs, x, Spot::Register(d))
-}
-
-/// The same of a destination that is a register.
-#[inline(always)]
-pub fn do_double_to_register<O: OnTwo, Z: Width, B: Bus>(
-    bus: &mut B,
-    regs: &mut Regs,
-    s: u16,
-    d: u16,
-) -> Result<(), Failure>
-    requires { d / 8 ≡ 0 }
-    ensures value { double_step (B.world bus.old) regs.old O.OP Z.SIZE (operand_of s) (operand_of d) ≡ left result regs.new (B.world bus.new) }
-    ensures err { OnErr result (B.world bus.new ≡ B.world bus.old) }
-    ensures kept { OnErr result (regs.new ≡ regs.old) }
-    ensures made { B.accesses bus.new ≡ perform_made 0 (B.world bus.old) regs.old (Instr.Double O.OP Z.SIZE (operand_of s) (operand_of d)) (B.accesses bus.old) }
-{
-    let kept = get_at(regs, s);
-    let at = get(regs, Reg::Pc);
-    let x = value(bus, Z::SIZE, regs, s)?;
-    or_undo!(
-        two::<O, Z, B>(bus, regs, x, Spot::Register(d)),
-        regs,
-        s,
-        kept,
-        at
-    )
-}
-
-/// The same of a source that is a register.
-#[inline(always)]
-pub fn do_double_from_register<O: OnTwo, Z: Width, B: Bus>(
-    bus: &mut B,
-    regs: &mut Regs,
-    s: u16,
-    d: u16,
-) -> Result<(), Failure>
-    requires { s / 8 ≡ 0 }
-    ensures value { double_step (B.world bus.old) regs.old O.OP Z.SIZE (operand_of s) (operand_of d) ≡ left result regs.new (B.world bus.new) }
-    ensures err { OnErr result (B.world bus.new ≡ B.world bus.old) }
-    ensures kept { OnErr result (regs.new ≡ regs.old) }
-    ensures made { B.accesses bus.new ≡ perform_made 0 (B.world bus.old) regs.old (Instr.Double O.OP Z.SIZE (operand_of s) (operand_of d)) (B.accesses bus.old) }
-{
-    let x = load_at(bus, Z::SIZE, regs, Spot::Register(s))?;
-    two_to::<O, Z, B>(bus, regs, x, d)
+    or_undo!(total::<O, B>(bus, regs, x, place), regs, d, kept)
 }
 
 /// A source and a destination, of words alone.
 #[inline(always)]
-pub fn do_sum<O: OnSum, B: Bus>(bus: &mut B, regs: &mut Regs, s: u16, d: u16) -> Result<(), Failure>
+pub fn do_sum<O: OnSum, E: Ends, B: Bus>(
+    bus: &mut B,
+    regs: &mut Regs,
+    s: u16,
+    d: u16,
+) -> Result<(), Failure>
+    requires source { E.SOURCE ≡ true → s / 8 ≡ 0 }
+    requires target { E.TARGET ≡ true → d / 8 ≡ 0 }
     ensures value { sum_step (B.world bus.old) regs.old O.OP (operand_of s) (operand_of d) ≡ left result regs.new (B.world bus.new) }
     ensures err { OnErr result (B.world bus.new ≡ B.world bus.old) }
-    ensures kept { OnErr result (regs.new ≡ regs.old) }
+    ensures kept { OnErr result (AllButCounter regs.old regs.new) }
     ensures made { B.accesses bus.new ≡ perform_made 0 (B.world bus.old) regs.old (Instr.Sum O.OP (operand_of s) (operand_of d)) (B.accesses bus.old) }
 {
+    if E::SOURCE {
+        let x = load_at(bus, Size::Word, regs, Spot::Register(s))?;
+        return total_to::<O, E, B>(bus, regs, x, d);
+    }
     let kept = get_at(regs, s);
-    let at = get(regs, Reg::Pc);
     let x = value(bus, Size::Word, regs, s)?;
-    or_undo!(total_to::<O, B>(bus, regs, x, d), regs, s, kept, at)
-}
-
-/// The same of two registers.
-#[inline(always)]
-pub fn do_sum_in_registers<O: OnSum, B: Bus>(
-    bus: &mut B,
-    regs: &mut Regs,
-    s: u16,
-    d: u16,
-) -> Result<(), Failure>
-    requires source { s / 8 ≡ 0 }
-    requires target { d / 8 ≡ 0 }
-    ensures value { sum_step (B.world bus.old) regs.old O.OP (operand_of s) (operand_of d) ≡ left result regs.new (B.world bus.new) }
-    ensures err { OnErr result (B.world bus.new ≡ B.world bus.old) }
-    ensures kept { OnErr result (regs.new ≡ regs.old) }
-    ensures made { B.accesses bus.new ≡ perform_made 0 (B.world bus.old) regs.old (Instr.Sum O.OP (operand_of s) (operand_of d)) (B.accesses bus.old) }
-{
-    let x = load_at(bus, Size::Word, regs, Spot::Register(s))?;
-    total::<O, B>(bus, regs, x, Spot::Register(d))
-}
-
-/// The same of a destination that is a register.
-#[inline(always)]
-pub fn do_sum_to_register<O: OnSum, B: Bus>(
-    bus: &mut B,
-    regs: &mut Regs,
-    s: u16,
-    d: u16,
-) -> Result<(), Failure>
-    requires { d / 8 ≡ 0 }
-    ensures value { sum_step (B.world bus.old) regs.old O.OP (operand_of s) (operand_of d) ≡ left result regs.new (B.world bus.new) }
-    ensures err { OnErr result (B.world bus.new ≡ B.world bus.old) }
-    ensures kept { OnErr result (regs.new ≡ regs.old) }
-    ensures made { B.accesses bus.new ≡ perform_made 0 (B.world bus.old) regs.old (Instr.Sum O.OP (operand_of s) (operand_of d)) (B.accesses bus.old) }
-{
-    let kept = get_at(regs, s);
-    let at = get(regs, Reg::Pc);
-    let x = value(bus, Size::Word, regs, s)?;
-    or_undo!(
-        total::<O, B>(bus, regs, x, Spot::Register(d)),
-        regs,
-        s,
-        kept,
-        at
-    )
-}
-
-/// The same of a source that is a register.
-#[inline(always)]
-pub fn do_sum_from_register<O: OnSum, B: Bus>(
-    bus: &mut B,
-    regs: &mut Regs,
-    s: u16,
-    d: u16,
-) -> Result<(), Failure>
-    requires { s / 8 ≡ 0 }
-    ensures value { sum_step (B.world bus.old) regs.old O.OP (operand_of s) (operand_of d) ≡ left result regs.new (B.world bus.new) }
-    ensures err { OnErr result (B.world bus.new ≡ B.world bus.old) }
-    ensures kept { OnErr result (regs.new ≡ regs.old) }
-    ensures made { B.accesses bus.new ≡ perform_made 0 (B.world bus.old) regs.old (Instr.Sum O.OP (operand_of s) (operand_of d)) (B.accesses bus.old) }
-{
-    let x = load_at(bus, Size::Word, regs, Spot::Register(s))?;
-    total_to::<O, B>(bus, regs, x, d)
+    or_undo!(total_to::<O, E, B>(bus, regs, x, d), regs, s, kept)
 }
 
 /// One operand, of words or bytes.
-#[tactic(auto, using(crate::proofs::Undoing::found_given_back))]
+#[tactic(auto, using(crate::proofs::Undoing::counter_itself, crate::proofs::Undoing::found_given_back))]
 #[inline(always)]
-pub fn do_single<O: OnOne, Z: Width, B: Bus>(
+pub fn do_single<O: OnOne, Z: Width, E: Ends, B: Bus>(
     bus: &mut B,
     regs: &mut Regs,
     d: u16,
 ) -> Result<(), Failure>
+    requires { E.TARGET ≡ true → d / 8 ≡ 0 }
     ensures value { single_step (B.world bus.old) regs.old O.OP Z.SIZE (operand_of d) ≡ left result regs.new (B.world bus.new) }
     ensures err { OnErr result (B.world bus.new ≡ B.world bus.old) }
-    ensures kept { OnErr result (regs.new ≡ regs.old) }
+    ensures kept { OnErr result (AllButCounter regs.old regs.new) }
     ensures made { B.accesses bus.new ≡ perform_made 0 (B.world bus.old) regs.old (Instr.Single O.OP Z.SIZE (operand_of d)) (B.accesses bus.old) }
 {
+    if E::TARGET {
+        return one(bus, regs, O::OP, Z::SIZE, Spot::Register(d));
+    }
     let kept = get_at(regs, d);
-    let at = get(regs, Reg::Pc);
     let place = find(bus, Z::SIZE, regs, d)?;
-    or_undo!(one(bus, regs, O::OP, Z::SIZE, place), regs, d, kept, at)
-}
-
-/// The same of a register.
-#[inline(always)]
-pub fn do_single_in_register<O: OnOne, Z: Width, B: Bus>(
-    bus: &mut B,
-    regs: &mut Regs,
-    d: u16,
-) -> Result<(), Failure>
-    requires { d / 8 ≡ 0 }
-    ensures value { single_step (B.world bus.old) regs.old O.OP Z.SIZE (operand_of d) ≡ left result regs.new (B.world bus.new) }
-    ensures err { OnErr result (B.world bus.new ≡ B.world bus.old) }
-    ensures kept { OnErr result (regs.new ≡ regs.old) }
-    ensures made { B.accesses bus.new ≡ perform_made 0 (B.world bus.old) regs.old (Instr.Single O.OP Z.SIZE (operand_of d)) (B.accesses bus.old) }
-{
-    one(bus, regs, O::OP, Z::SIZE, Spot::Register(d))
+    or_undo!(one(bus, regs, O::OP, Z::SIZE, place), regs, d, kept)
 }
 
 /// One operand, of words alone.
@@ -692,13 +619,12 @@ pub fn do_single_in_register<O: OnOne, Z: Width, B: Bus>(
 pub fn do_word<B: Bus>(bus: &mut B, regs: &mut Regs, op: WordOp, d: u16) -> Result<(), Failure>
     ensures value { word_step (B.world bus.old) regs.old op (operand_of d) ≡ left result regs.new (B.world bus.new) }
     ensures err { OnErr result (B.world bus.new ≡ B.world bus.old) }
-    ensures kept { OnErr result (regs.new ≡ regs.old) }
+    ensures kept { OnErr result (AllButCounter regs.old regs.new) }
     ensures made { B.accesses bus.new ≡ perform_made 0 (B.world bus.old) regs.old (Instr.OnWord op (operand_of d)) (B.accesses bus.old) }
 {
     let kept = get_at(regs, d);
-    let at = get(regs, Reg::Pc);
     let place = find(bus, Size::Word, regs, d)?;
-    or_undo!(on_word(bus, regs, op, place), regs, d, kept, at)
+    or_undo!(on_word(bus, regs, op, place), regs, d, kept)
 }
 
 /// A register and an operand.
@@ -714,7 +640,7 @@ pub fn do_register<B: Bus>(
 ) -> Result<(), Failure>
     ensures value { register_step at (B.world bus.old) regs.old op r (operand_of s) ≡ left result regs.new (B.world bus.new) }
     ensures err { OnErr result (B.world bus.new ≡ B.world bus.old) }
-    ensures kept { OnErr result (regs.new ≡ regs.old) }
+    ensures kept { OnErr result (AllButCounter regs.old regs.new) }
     ensures made { B.accesses bus.new ≡ perform_made at (B.world bus.old) regs.old (Instr.OnRegister op r (operand_of s)) (B.accesses bus.old) }
 {
     if has_odd_pair(op, r) {
@@ -722,14 +648,12 @@ pub fn do_register<B: Bus>(
     }
     let before = get(regs, r);
     let kept = get_at(regs, s);
-    let next = get(regs, Reg::Pc);
     let place = find(bus, Size::Word, regs, s)?;
     or_undo!(
         with_register(bus, regs, op, r, before, place),
         regs,
         s,
-        kept,
-        next
+        kept
     )
 }
 
@@ -739,11 +663,10 @@ pub fn do_register<B: Bus>(
 pub fn do_jump<B: Bus>(bus: &mut B, regs: &mut Regs, at: u16, d: u16) -> Result<(), Failure>
     ensures value { jump_step at (B.world bus.old) regs.old (operand_of d) ≡ left result regs.new (B.world bus.new) }
     ensures err { OnErr result (B.world bus.new ≡ B.world bus.old) }
-    ensures kept { OnErr result (regs.new ≡ regs.old) }
+    ensures kept { OnErr result (AllButCounter regs.old regs.new) }
     ensures made { B.accesses bus.new ≡ perform_made at (B.world bus.old) regs.old (Instr.Jump (operand_of d)) (B.accesses bus.old) }
 {
     let kept = get_at(regs, d);
-    let next = get(regs, Reg::Pc);
     let place = find(bus, Size::Word, regs, d)?;
     match address_of(at, place) {
         Ok(to) => {
@@ -751,7 +674,7 @@ pub fn do_jump<B: Bus>(bus: &mut B, regs: &mut Regs, at: u16, d: u16) -> Result<
             Ok(())
         }
         Err(failure) => {
-            undo(regs, d, kept, next);
+            set_at(regs, d, kept);
             Err(failure)
         }
     }
@@ -763,20 +686,19 @@ pub fn do_jump<B: Bus>(bus: &mut B, regs: &mut Regs, at: u16, d: u16) -> Result<
 pub fn do_call<B: Bus>(bus: &mut B, regs: &mut Regs, at: u16, r: Reg, d: u16) -> Result<(), Failure>
     ensures value { call_step at (B.world bus.old) regs.old r (operand_of d) ≡ left result regs.new (B.world bus.new) }
     ensures err { OnErr result (B.world bus.new ≡ B.world bus.old) }
-    ensures kept { OnErr result (regs.new ≡ regs.old) }
+    ensures kept { OnErr result (AllButCounter regs.old regs.new) }
     ensures made { B.accesses bus.new ≡ perform_made at (B.world bus.old) regs.old (Instr.Call r (operand_of d)) (B.accesses bus.old) }
 {
     let kept = get_at(regs, d);
-    let next = get(regs, Reg::Pc);
     let place = find(bus, Size::Word, regs, d)?;
-    or_undo!(enter_at(bus, regs, at, r, place), regs, d, kept, next)
+    or_undo!(enter_at(bus, regs, at, r, place), regs, d, kept)
 }
 
 #[inline(always)]
 fn attempt<B: Bus>(bus: &mut B, regs: &mut Regs, stop: &mut Stop) -> Done
     ensures value { plan (B.world bus.old) regs.old ≡ told result stop.new regs.new (B.world bus.new) }
     ensures err { result ≡ Done.Stopped → B.world bus.new ≡ B.world bus.old }
-    ensures kept { result ≡ Done.Stopped → with_reg regs.new Pc (reg regs.old Pc) ≡ regs.old }
+    ensures kept { result ≡ Done.Stopped → AllButCounter regs.old regs.new }
     ensures made { B.accesses bus.new ≡ execute_made (B.world bus.old) regs.old (B.accesses bus.old) }
 {
     let at = get(regs, Reg::Pc);
@@ -789,6 +711,20 @@ fn attempt<B: Bus>(bus: &mut B, regs: &mut Regs, stop: &mut Stop) -> Done
     }
 }
 
+/// Gives the program counter back after a fault. It is a function of its own, so that an instruction that went on isn't asked again how it ended.
+#[inline(never)]
+fn turn_back(regs: &mut Regs, stop: &Stop, at: u16) -> Done
+    ensures done { result ≡ Done.Stopped }
+    ensures regs { regs.new ≡ turned_back stop.now regs.old at }
+{
+    match *stop {
+        Stop::Fault(_, _) => set(regs, Reg::Pc, at),
+        Stop::Trap(_) => {}
+        Stop::Went => {}
+    }
+    Done::Stopped
+}
+
 /// One instruction: registers, flags and memory are changed as the instruction table says, or, on a fault, not at all. It
 /// takes no memory of the host. What stopped it is told in a place that is lent; where it went on, that says nothing.
 #[inline(always)]
@@ -799,14 +735,7 @@ pub fn carry_on<B: Bus>(regs: &mut Regs, bus: &mut B, stop: &mut Stop) -> Done
     let at = get(regs, Reg::Pc);
     match attempt(bus, regs, stop) {
         Done::Went => Done::Went,
-        Done::Stopped => match *stop {
-            Stop::Fault(_, _) => {
-                set(regs, Reg::Pc, at);
-                Done::Stopped
-            }
-            Stop::Trap(_) => Done::Stopped,
-            Stop::Went => Done::Stopped,
-        },
+        Done::Stopped => turn_back(regs, stop, at),
     }
 }
 

@@ -1,5 +1,5 @@
 // Flags.
-ghost use Rattle.std.specs.Prelude.{◌≡◌, ◌<◌};
+ghost use Rattle.std.specs.Prelude.{◌≡◌, ◌<◌, false};
 ghost use Rattle.pdp_values.specs.Values.{limit, single_carry, single_overflow};
 ghost use Rattle.pdp_core.specs.Execute.{by_value, by_difference, by_sum, flags, marked};
 
@@ -24,6 +24,16 @@ pub fn set_by_value(regs: &mut Regs, size: Size, x: u16, v: bool, c: bool)
     ensures { regs.new ≡ by_value regs.old size x v c }
 {
     set_flags(regs, is_negative(size, x), x == 0, v, c);
+}
+
+/// N and Z by a result, with V cleared and C as it was.
+#[inline(always)]
+pub fn set_but_carry(regs: &mut Regs, size: Size, x: u16)
+    ensures { regs.new ≡ by_value regs.old size x false regs.old.c }
+{
+    regs.n = is_negative(size, x);
+    regs.z = x == 0;
+    regs.v = false;
 }
 
 /// The flags of `a - b`.

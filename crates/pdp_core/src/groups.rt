@@ -1,5 +1,5 @@
 // Instructions, decoded and carried out in one: a function for each group of codes.
-ghost use Rattle.std.specs.Prelude.{◌≡◌, ◌≢◌, ◌/◌, ◌%◌, ◌<◌, ◌≤◌, Some, None};
+ghost use Rattle.std.specs.Prelude.{◌≡◌, ◌≢◌, ◌/◌, ◌%◌, ◌<◌, ◌≤◌, Some, None, true};
 ghost use Rattle.pdp_code.specs.declared.instruction.Instr.{Instr};
 ghost use Rattle.pdp_code.specs.declared.instruction.Size.{Size};
 ghost use Rattle.pdp_code.specs.Code.{condition_code};
@@ -7,14 +7,14 @@ ghost use Rattle.pdp_code.specs.First.{size_at, operand_of, double_of, condition
 ghost use Rattle.pdp_core.specs.Accesses.{perform_made, first_made};
 ghost use Rattle.pdp_core.specs.Execute.{branch as branch_of, holds, double_step, sum_step, single_step, jump_step, perform_first};
 ghost use Rattle.pdp_core.specs.Told.{told};
+ghost use Rattle.pdp_core.specs.Kept.{AllButCounter};
 ghost use Rattle.pdp_core.specs.Groups.{from_registers, from_words, from_singles};
 
 use crate::cpu::{Done, Kind, Regs, Stop};
+use crate::ends::{Anywhere, Ends, FromRegister, Registers, ToRegister};
 use crate::execute::{
-    ask, count_down, do_call, do_double, do_double_from_register, do_double_in_registers,
-    do_double_to_register, do_jump, do_register, do_single, do_single_in_register, do_sum,
-    do_sum_from_register, do_sum_in_registers, do_sum_to_register, do_word, failed, leave, stop_by,
-    take_branch,
+    ask, count_down, do_call, do_double, do_jump, do_register, do_single, do_sum, do_word, failed,
+    leave, stop_by, take_branch,
 };
 use crate::flags::mark;
 use crate::memory::Bus;
@@ -47,78 +47,40 @@ fn carry_two<O: OnTwo, Z: Width, B: Bus>(
 ) -> Done
     ensures value { double_step (B.world bus.old) regs.old O.OP Z.SIZE (operand_of (w / 64 % 64)) (operand_of (w % 64)) ≡ told result stop.new regs.new (B.world bus.new) }
     ensures err { result ≡ Done.Stopped → B.world bus.new ≡ B.world bus.old }
-    ensures kept { result ≡ Done.Stopped → regs.new ≡ regs.old }
+    ensures kept { result ≡ Done.Stopped → AllButCounter regs.old regs.new }
     ensures made { B.accesses bus.new ≡ perform_made 0 (B.world bus.old) regs.old (Instr.Double O.OP Z.SIZE (operand_of (w / 64 % 64)) (operand_of (w % 64))) (B.accesses bus.old) }
 {
     let s = w / 0o100 % 0o100;
     let d = w % 0o100;
     if s / 0o10 == 0 && d / 0o10 == 0 {
-        return ended!(do_double_in_registers::<O, Z, B>(bus, regs, s, d), stop);
+        return ended!(do_double::<O, Z, Registers, B>(bus, regs, s, d), stop);
     }
     if d / 0o10 == 0 {
-        return carry_two_to_register::<O, Z, B>(bus, regs, w, stop);
+        return carry_two_by::<O, Z, ToRegister, B>(bus, regs, w, stop);
     }
     if s / 0o10 == 0 {
-        return carry_two_from_register::<O, Z, B>(bus, regs, w, stop);
+        return carry_two_by::<O, Z, FromRegister, B>(bus, regs, w, stop);
     }
-    carry_two_in_memory::<O, Z, B>(bus, regs, w, stop)
+    carry_two_by::<O, Z, Anywhere, B>(bus, regs, w, stop)
 }
 
-/// The same, of a destination that is a register.
+/// The same by a call, one for each way in which an operand is a register.
 #[inline(never)]
-fn carry_two_to_register<O: OnTwo, Z: Width, B: Bus>(
+fn carry_two_by<O: OnTwo, Z: Width, E: Ends, B: Bus>(
     bus: &mut B,
     regs: &mut Regs,
     w: u16,
     stop: &mut Stop,
 ) -> Done
-    requires { w % 64 / 8 ≡ 0 }
+    requires source { E.SOURCE ≡ true → w / 64 % 64 / 8 ≡ 0 }
+    requires target { E.TARGET ≡ true → w % 64 / 8 ≡ 0 }
     ensures value { double_step (B.world bus.old) regs.old O.OP Z.SIZE (operand_of (w / 64 % 64)) (operand_of (w % 64)) ≡ told result stop.new regs.new (B.world bus.new) }
     ensures err { result ≡ Done.Stopped → B.world bus.new ≡ B.world bus.old }
-    ensures kept { result ≡ Done.Stopped → regs.new ≡ regs.old }
+    ensures kept { result ≡ Done.Stopped → AllButCounter regs.old regs.new }
     ensures made { B.accesses bus.new ≡ perform_made 0 (B.world bus.old) regs.old (Instr.Double O.OP Z.SIZE (operand_of (w / 64 % 64)) (operand_of (w % 64))) (B.accesses bus.old) }
 {
     ended!(
-        do_double_to_register::<O, Z, B>(bus, regs, w / 0o100 % 0o100, w % 0o100),
-        stop
-    )
-}
-
-/// The same, of a source that is a register.
-#[inline(never)]
-fn carry_two_from_register<O: OnTwo, Z: Width, B: Bus>(
-    bus: &mut B,
-    regs: &mut Regs,
-    w: u16,
-    stop: &mut Stop,
-) -> Done
-    requires { w / 64 % 64 / 8 ≡ 0 }
-    ensures value { double_step (B.world bus.old) regs.old O.OP Z.SIZE (operand_of (w / 64 % 64)) (operand_of (w % 64)) ≡ told result stop.new regs.new (B.world bus.new) }
-    ensures err { result ≡ Done.Stopped → B.world bus.new ≡ B.world bus.old }
-    ensures kept { result ≡ Done.Stopped → regs.new ≡ regs.old }
-    ensures made { B.accesses bus.new ≡ perform_made 0 (B.world bus.old) regs.old (Instr.Double O.OP Z.SIZE (operand_of (w / 64 % 64)) (operand_of (w % 64))) (B.accesses bus.old) }
-{
-    ended!(
-        do_double_from_register::<O, Z, B>(bus, regs, w / 0o100 % 0o100, w % 0o100),
-        stop
-    )
-}
-
-/// The same, of any operands.
-#[inline(never)]
-fn carry_two_in_memory<O: OnTwo, Z: Width, B: Bus>(
-    bus: &mut B,
-    regs: &mut Regs,
-    w: u16,
-    stop: &mut Stop,
-) -> Done
-    ensures value { double_step (B.world bus.old) regs.old O.OP Z.SIZE (operand_of (w / 64 % 64)) (operand_of (w % 64)) ≡ told result stop.new regs.new (B.world bus.new) }
-    ensures err { result ≡ Done.Stopped → B.world bus.new ≡ B.world bus.old }
-    ensures kept { result ≡ Done.Stopped → regs.new ≡ regs.old }
-    ensures made { B.accesses bus.new ≡ perform_made 0 (B.world bus.old) regs.old (Instr.Double O.OP Z.SIZE (operand_of (w / 64 % 64)) (operand_of (w % 64))) (B.accesses bus.old) }
-{
-    ended!(
-        do_double::<O, Z, B>(bus, regs, w / 0o100 % 0o100, w % 0o100),
+        do_double::<O, Z, E, B>(bus, regs, w / 0o100 % 0o100, w % 0o100),
         stop
     )
 }
@@ -128,78 +90,40 @@ fn carry_two_in_memory<O: OnTwo, Z: Width, B: Bus>(
 fn carry_sum<O: OnSum, B: Bus>(bus: &mut B, regs: &mut Regs, w: u16, stop: &mut Stop) -> Done
     ensures value { sum_step (B.world bus.old) regs.old O.OP (operand_of (w / 64 % 64)) (operand_of (w % 64)) ≡ told result stop.new regs.new (B.world bus.new) }
     ensures err { result ≡ Done.Stopped → B.world bus.new ≡ B.world bus.old }
-    ensures kept { result ≡ Done.Stopped → regs.new ≡ regs.old }
+    ensures kept { result ≡ Done.Stopped → AllButCounter regs.old regs.new }
     ensures made { B.accesses bus.new ≡ perform_made 0 (B.world bus.old) regs.old (Instr.Sum O.OP (operand_of (w / 64 % 64)) (operand_of (w % 64))) (B.accesses bus.old) }
 {
     let s = w / 0o100 % 0o100;
     let d = w % 0o100;
     if s / 0o10 == 0 && d / 0o10 == 0 {
-        return ended!(do_sum_in_registers::<O, B>(bus, regs, s, d), stop);
+        return ended!(do_sum::<O, Registers, B>(bus, regs, s, d), stop);
     }
     if d / 0o10 == 0 {
-        return carry_sum_to_register::<O, B>(bus, regs, w, stop);
+        return carry_sum_by::<O, ToRegister, B>(bus, regs, w, stop);
     }
     if s / 0o10 == 0 {
-        return carry_sum_from_register::<O, B>(bus, regs, w, stop);
+        return carry_sum_by::<O, FromRegister, B>(bus, regs, w, stop);
     }
-    carry_sum_in_memory::<O, B>(bus, regs, w, stop)
+    carry_sum_by::<O, Anywhere, B>(bus, regs, w, stop)
 }
 
-/// The same, of a destination that is a register.
+/// The same by a call.
 #[inline(never)]
-fn carry_sum_to_register<O: OnSum, B: Bus>(
+fn carry_sum_by<O: OnSum, E: Ends, B: Bus>(
     bus: &mut B,
     regs: &mut Regs,
     w: u16,
     stop: &mut Stop,
 ) -> Done
-    requires { w % 64 / 8 ≡ 0 }
+    requires source { E.SOURCE ≡ true → w / 64 % 64 / 8 ≡ 0 }
+    requires target { E.TARGET ≡ true → w % 64 / 8 ≡ 0 }
     ensures value { sum_step (B.world bus.old) regs.old O.OP (operand_of (w / 64 % 64)) (operand_of (w % 64)) ≡ told result stop.new regs.new (B.world bus.new) }
     ensures err { result ≡ Done.Stopped → B.world bus.new ≡ B.world bus.old }
-    ensures kept { result ≡ Done.Stopped → regs.new ≡ regs.old }
+    ensures kept { result ≡ Done.Stopped → AllButCounter regs.old regs.new }
     ensures made { B.accesses bus.new ≡ perform_made 0 (B.world bus.old) regs.old (Instr.Sum O.OP (operand_of (w / 64 % 64)) (operand_of (w % 64))) (B.accesses bus.old) }
 {
     ended!(
-        do_sum_to_register::<O, B>(bus, regs, w / 0o100 % 0o100, w % 0o100),
-        stop
-    )
-}
-
-/// The same, of a source that is a register.
-#[inline(never)]
-fn carry_sum_from_register<O: OnSum, B: Bus>(
-    bus: &mut B,
-    regs: &mut Regs,
-    w: u16,
-    stop: &mut Stop,
-) -> Done
-    requires { w / 64 % 64 / 8 ≡ 0 }
-    ensures value { sum_step (B.world bus.old) regs.old O.OP (operand_of (w / 64 % 64)) (operand_of (w % 64)) ≡ told result stop.new regs.new (B.world bus.new) }
-    ensures err { result ≡ Done.Stopped → B.world bus.new ≡ B.world bus.old }
-    ensures kept { result ≡ Done.Stopped → regs.new ≡ regs.old }
-    ensures made { B.accesses bus.new ≡ perform_made 0 (B.world bus.old) regs.old (Instr.Sum O.OP (operand_of (w / 64 % 64)) (operand_of (w % 64))) (B.accesses bus.old) }
-{
-    ended!(
-        do_sum_from_register::<O, B>(bus, regs, w / 0o100 % 0o100, w % 0o100),
-        stop
-    )
-}
-
-/// The same, of any operands.
-#[inline(never)]
-fn carry_sum_in_memory<O: OnSum, B: Bus>(
-    bus: &mut B,
-    regs: &mut Regs,
-    w: u16,
-    stop: &mut Stop,
-) -> Done
-    ensures value { sum_step (B.world bus.old) regs.old O.OP (operand_of (w / 64 % 64)) (operand_of (w % 64)) ≡ told result stop.new regs.new (B.world bus.new) }
-    ensures err { result ≡ Done.Stopped → B.world bus.new ≡ B.world bus.old }
-    ensures kept { result ≡ Done.Stopped → regs.new ≡ regs.old }
-    ensures made { B.accesses bus.new ≡ perform_made 0 (B.world bus.old) regs.old (Instr.Sum O.OP (operand_of (w / 64 % 64)) (operand_of (w % 64))) (B.accesses bus.old) }
-{
-    ended!(
-        do_sum::<O, B>(bus, regs, w / 0o100 % 0o100, w % 0o100),
+        do_sum::<O, E, B>(bus, regs, w / 0o100 % 0o100, w % 0o100),
         stop
     )
 }
@@ -214,12 +138,12 @@ fn carry_one<O: OnOne, Z: Width, B: Bus>(
 ) -> Done
     ensures value { single_step (B.world bus.old) regs.old O.OP Z.SIZE (operand_of (w % 64)) ≡ told result stop.new regs.new (B.world bus.new) }
     ensures err { result ≡ Done.Stopped → B.world bus.new ≡ B.world bus.old }
-    ensures kept { result ≡ Done.Stopped → regs.new ≡ regs.old }
+    ensures kept { result ≡ Done.Stopped → AllButCounter regs.old regs.new }
     ensures made { B.accesses bus.new ≡ perform_made 0 (B.world bus.old) regs.old (Instr.Single O.OP Z.SIZE (operand_of (w % 64))) (B.accesses bus.old) }
 {
     let d = w % 0o100;
     if d / 0o10 == 0 {
-        return ended!(do_single_in_register::<O, Z, B>(bus, regs, d), stop);
+        return ended!(do_single::<O, Z, Registers, B>(bus, regs, d), stop);
     }
     carry_one_in_memory::<O, Z, B>(bus, regs, w, stop)
 }
@@ -234,10 +158,10 @@ fn carry_one_in_memory<O: OnOne, Z: Width, B: Bus>(
 ) -> Done
     ensures value { single_step (B.world bus.old) regs.old O.OP Z.SIZE (operand_of (w % 64)) ≡ told result stop.new regs.new (B.world bus.new) }
     ensures err { result ≡ Done.Stopped → B.world bus.new ≡ B.world bus.old }
-    ensures kept { result ≡ Done.Stopped → regs.new ≡ regs.old }
+    ensures kept { result ≡ Done.Stopped → AllButCounter regs.old regs.new }
     ensures made { B.accesses bus.new ≡ perform_made 0 (B.world bus.old) regs.old (Instr.Single O.OP Z.SIZE (operand_of (w % 64))) (B.accesses bus.old) }
 {
-    ended!(do_single::<O, Z, B>(bus, regs, w % 0o100), stop)
+    ended!(do_single::<O, Z, Anywhere, B>(bus, regs, w % 0o100), stop)
 }
 
 /// The size by the four top bits.
@@ -260,7 +184,7 @@ fn double_words<O: OnTwo, B: Bus>(bus: &mut B, regs: &mut Regs, w: u16, stop: &m
     requires { w / 4096 < 8 }
     ensures value { double_step (B.world bus.old) regs.old O.OP (size_at (w / 32768)) (operand_of (w / 64 % 64)) (operand_of (w % 64)) ≡ told result stop.new regs.new (B.world bus.new) }
     ensures err { result ≡ Done.Stopped → B.world bus.new ≡ B.world bus.old }
-    ensures kept { result ≡ Done.Stopped → regs.new ≡ regs.old }
+    ensures kept { result ≡ Done.Stopped → AllButCounter regs.old regs.new }
     ensures made { B.accesses bus.new ≡ perform_made 0 (B.world bus.old) regs.old (Instr.Double O.OP (size_at (w / 32768)) (operand_of (w / 64 % 64)) (operand_of (w % 64))) (B.accesses bus.old) }
 {
     is_of_words(w);
@@ -273,26 +197,37 @@ fn double_bytes<O: OnTwo, B: Bus>(bus: &mut B, regs: &mut Regs, w: u16, stop: &m
     requires { 8 ≤ w / 4096 }
     ensures value { double_step (B.world bus.old) regs.old O.OP (size_at (w / 32768)) (operand_of (w / 64 % 64)) (operand_of (w % 64)) ≡ told result stop.new regs.new (B.world bus.new) }
     ensures err { result ≡ Done.Stopped → B.world bus.new ≡ B.world bus.old }
-    ensures kept { result ≡ Done.Stopped → regs.new ≡ regs.old }
+    ensures kept { result ≡ Done.Stopped → AllButCounter regs.old regs.new }
     ensures made { B.accesses bus.new ≡ perform_made 0 (B.world bus.old) regs.old (Instr.Double O.OP (size_at (w / 32768)) (operand_of (w / 64 % 64)) (operand_of (w % 64))) (B.accesses bus.old) }
 {
     is_of_bytes(w);
     carry_two::<O, Bytes, B>(bus, regs, w, stop)
 }
 
-/// One operand, of words or bytes by the top bit.
+/// One operand, of words.
 #[inline(always)]
-fn single<O: OnOne, B: Bus>(bus: &mut B, regs: &mut Regs, w: u16, stop: &mut Stop) -> Done
+fn single_words<O: OnOne, B: Bus>(bus: &mut B, regs: &mut Regs, w: u16, stop: &mut Stop) -> Done
+    requires { w / 64 < 512 }
     ensures value { single_step (B.world bus.old) regs.old O.OP (size_at (w / 32768)) (operand_of (w % 64)) ≡ told result stop.new regs.new (B.world bus.new) }
     ensures err { result ≡ Done.Stopped → B.world bus.new ≡ B.world bus.old }
-    ensures kept { result ≡ Done.Stopped → regs.new ≡ regs.old }
+    ensures kept { result ≡ Done.Stopped → AllButCounter regs.old regs.new }
     ensures made { B.accesses bus.new ≡ perform_made 0 (B.world bus.old) regs.old (Instr.Single O.OP (size_at (w / 32768)) (operand_of (w % 64))) (B.accesses bus.old) }
 {
-    if w / 0o100000 == 0 {
-        carry_one::<O, Words, B>(bus, regs, w, stop)
-    } else {
-        carry_one::<O, Bytes, B>(bus, regs, w, stop)
-    }
+    is_of_words(w);
+    carry_one::<O, Words, B>(bus, regs, w, stop)
+}
+
+/// One operand, of bytes.
+#[inline(always)]
+fn single_bytes<O: OnOne, B: Bus>(bus: &mut B, regs: &mut Regs, w: u16, stop: &mut Stop) -> Done
+    requires { 512 ≤ w / 64 }
+    ensures value { single_step (B.world bus.old) regs.old O.OP (size_at (w / 32768)) (operand_of (w % 64)) ≡ told result stop.new regs.new (B.world bus.new) }
+    ensures err { result ≡ Done.Stopped → B.world bus.new ≡ B.world bus.old }
+    ensures kept { result ≡ Done.Stopped → AllButCounter regs.old regs.new }
+    ensures made { B.accesses bus.new ≡ perform_made 0 (B.world bus.old) regs.old (Instr.Single O.OP (size_at (w / 32768)) (operand_of (w % 64))) (B.accesses bus.old) }
+{
+    is_of_bytes(w);
+    carry_one::<O, Bytes, B>(bus, regs, w, stop)
 }
 
 /// The words of a branch on a condition, by their eight top bits.
@@ -322,7 +257,7 @@ fn branch(regs: &mut Regs, c: Condition, w: u16) -> Done
 fn jump<B: Bus>(bus: &mut B, regs: &mut Regs, at: u16, w: u16, stop: &mut Stop) -> Done
     ensures value { jump_step at (B.world bus.old) regs.old (operand_of (w % 64)) ≡ told result stop.new regs.new (B.world bus.new) }
     ensures err { result ≡ Done.Stopped → B.world bus.new ≡ B.world bus.old }
-    ensures kept { result ≡ Done.Stopped → regs.new ≡ regs.old }
+    ensures kept { result ≡ Done.Stopped → AllButCounter regs.old regs.new }
     ensures made { B.accesses bus.new ≡ perform_made at (B.world bus.old) regs.old (Instr.Jump (operand_of (w % 64))) (B.accesses bus.old) }
 {
     ended!(do_jump(bus, regs, at, w % 0o100), stop)
@@ -335,7 +270,7 @@ fn other<B: Bus>(bus: &mut B, regs: &mut Regs, at: u16, w: u16, stop: &mut Stop)
     requires no_jump { w / 64 ≢ 1 }
     ensures value { perform_first at (B.world bus.old) regs.old (other_first w) ≡ told result stop.new regs.new (B.world bus.new) }
     ensures err { result ≡ Done.Stopped → B.world bus.new ≡ B.world bus.old }
-    ensures kept { result ≡ Done.Stopped → regs.new ≡ regs.old }
+    ensures kept { result ≡ Done.Stopped → AllButCounter regs.old regs.new }
     ensures made { B.accesses bus.new ≡ first_made at (B.world bus.old) regs.old (other_first w) (B.accesses bus.old) }
 {
     if w / 0o1000 == 4 {
@@ -371,7 +306,7 @@ fn register_or_more<B: Bus>(bus: &mut B, regs: &mut Regs, at: u16, w: u16, stop:
     requires no_jump { w / 64 ≢ 1 }
     ensures value { perform_first at (B.world bus.old) regs.old (from_registers w) ≡ told result stop.new regs.new (B.world bus.new) }
     ensures err { result ≡ Done.Stopped → B.world bus.new ≡ B.world bus.old }
-    ensures kept { result ≡ Done.Stopped → regs.new ≡ regs.old }
+    ensures kept { result ≡ Done.Stopped → AllButCounter regs.old regs.new }
     ensures made { B.accesses bus.new ≡ first_made at (B.world bus.old) regs.old (from_registers w) (B.accesses bus.old) }
 {
     let r = register(w / 0o100 % 0o10);
@@ -397,7 +332,7 @@ fn word_or_more<B: Bus>(bus: &mut B, regs: &mut Regs, at: u16, w: u16, stop: &mu
     requires no_jump { w / 64 ≢ 1 }
     ensures value { perform_first at (B.world bus.old) regs.old (from_words w) ≡ told result stop.new regs.new (B.world bus.new) }
     ensures err { result ≡ Done.Stopped → B.world bus.new ≡ B.world bus.old }
-    ensures kept { result ≡ Done.Stopped → regs.new ≡ regs.old }
+    ensures kept { result ≡ Done.Stopped → AllButCounter regs.old regs.new }
     ensures made { B.accesses bus.new ≡ first_made at (B.world bus.old) regs.old (from_words w) (B.accesses bus.old) }
 {
     match w / 0o100 {
@@ -435,7 +370,7 @@ fn one_at_most<B: Bus>(bus: &mut B, regs: &mut Regs, at: u16, w: u16, stop: &mut
     requires { w / 4096 % 8 ≡ 0 }
     ensures value { perform_first at (B.world bus.old) regs.old (first_of w) ≡ told result stop.new regs.new (B.world bus.new) }
     ensures err { result ≡ Done.Stopped → B.world bus.new ≡ B.world bus.old }
-    ensures kept { result ≡ Done.Stopped → regs.new ≡ regs.old }
+    ensures kept { result ≡ Done.Stopped → AllButCounter regs.old regs.new }
     ensures made { B.accesses bus.new ≡ first_made at (B.world bus.old) regs.old (first_of w) (B.accesses bus.old) }
 {
     has_one_at_most(w);
@@ -460,18 +395,30 @@ fn one_at_most<B: Bus>(bus: &mut B, regs: &mut Regs, at: u16, w: u16, stop: &mut
         0o1024 | 0o1025 | 0o1026 | 0o1027 => branch(regs, Condition::Overflow, w),
         0o1030 | 0o1031 | 0o1032 | 0o1033 => branch(regs, Condition::NoCarry, w),
         0o1034 | 0o1035 | 0o1036 | 0o1037 => branch(regs, Condition::Carry, w),
-        0o50 | 0o1050 => single::<Clr, B>(bus, regs, w, stop),
-        0o51 | 0o1051 => single::<Com, B>(bus, regs, w, stop),
-        0o52 | 0o1052 => single::<Inc, B>(bus, regs, w, stop),
-        0o53 | 0o1053 => single::<Dec, B>(bus, regs, w, stop),
-        0o54 | 0o1054 => single::<Neg, B>(bus, regs, w, stop),
-        0o55 | 0o1055 => single::<Adc, B>(bus, regs, w, stop),
-        0o56 | 0o1056 => single::<Sbc, B>(bus, regs, w, stop),
-        0o57 | 0o1057 => single::<Tst, B>(bus, regs, w, stop),
-        0o60 | 0o1060 => single::<Ror, B>(bus, regs, w, stop),
-        0o61 | 0o1061 => single::<Rol, B>(bus, regs, w, stop),
-        0o62 | 0o1062 => single::<Asr, B>(bus, regs, w, stop),
-        0o63 | 0o1063 => single::<Asl, B>(bus, regs, w, stop),
+        0o50 => single_words::<Clr, B>(bus, regs, w, stop),
+        0o1050 => single_bytes::<Clr, B>(bus, regs, w, stop),
+        0o51 => single_words::<Com, B>(bus, regs, w, stop),
+        0o1051 => single_bytes::<Com, B>(bus, regs, w, stop),
+        0o52 => single_words::<Inc, B>(bus, regs, w, stop),
+        0o1052 => single_bytes::<Inc, B>(bus, regs, w, stop),
+        0o53 => single_words::<Dec, B>(bus, regs, w, stop),
+        0o1053 => single_bytes::<Dec, B>(bus, regs, w, stop),
+        0o54 => single_words::<Neg, B>(bus, regs, w, stop),
+        0o1054 => single_bytes::<Neg, B>(bus, regs, w, stop),
+        0o55 => single_words::<Adc, B>(bus, regs, w, stop),
+        0o1055 => single_bytes::<Adc, B>(bus, regs, w, stop),
+        0o56 => single_words::<Sbc, B>(bus, regs, w, stop),
+        0o1056 => single_bytes::<Sbc, B>(bus, regs, w, stop),
+        0o57 => single_words::<Tst, B>(bus, regs, w, stop),
+        0o1057 => single_bytes::<Tst, B>(bus, regs, w, stop),
+        0o60 => single_words::<Ror, B>(bus, regs, w, stop),
+        0o1060 => single_bytes::<Ror, B>(bus, regs, w, stop),
+        0o61 => single_words::<Rol, B>(bus, regs, w, stop),
+        0o1061 => single_bytes::<Rol, B>(bus, regs, w, stop),
+        0o62 => single_words::<Asr, B>(bus, regs, w, stop),
+        0o1062 => single_bytes::<Asr, B>(bus, regs, w, stop),
+        0o63 => single_words::<Asl, B>(bus, regs, w, stop),
+        0o1063 => single_bytes::<Asl, B>(bus, regs, w, stop),
         _ => word_or_more(bus, regs, at, w, stop),
     }
 }
@@ -481,7 +428,7 @@ fn one_at_most<B: Bus>(bus: &mut B, regs: &mut Regs, at: u16, w: u16, stop: &mut
 pub fn carry_out<B: Bus>(bus: &mut B, regs: &mut Regs, at: u16, w: u16, stop: &mut Stop) -> Done
     ensures value { perform_first at (B.world bus.old) regs.old (first_of w) ≡ told result stop.new regs.new (B.world bus.new) }
     ensures err { result ≡ Done.Stopped → B.world bus.new ≡ B.world bus.old }
-    ensures kept { result ≡ Done.Stopped → regs.new ≡ regs.old }
+    ensures kept { result ≡ Done.Stopped → AllButCounter regs.old regs.new }
     ensures made { B.accesses bus.new ≡ first_made at (B.world bus.old) regs.old (first_of w) (B.accesses bus.old) }
 {
     match w / 0o10000 {

@@ -5,6 +5,7 @@
 #![tactic(auto)]
 
 pub mod cpu;
+mod ends;
 mod execute;
 mod flags;
 mod groups;

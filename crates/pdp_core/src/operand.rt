@@ -1,7 +1,6 @@
 // Where operands are, and their values.
 ghost use Rattle.std.specs.Prelude.{◌≡◌, ◌≢◌, ◌%◌, ◌<◌, Ok, OnErr, IfOk};
 ghost use Rattle.pdp_code.specs.Code.{reg_code};
-ghost use Rattle.pdp_code.specs.declared.instruction.Reg.TheVariants.{Pc};
 ghost use Rattle.pdp_code.specs.First.{reg_of, pointer_of, operand_of};
 ghost use Rattle.rt_words.specs.Word.{wrap_add as sum_of, wrap_sub as difference_of};
 ghost use Rattle.pdp_core.specs.Log.{noted, FetchesWord, ReadsWord, WritesWord, WritesByte};
@@ -9,6 +8,7 @@ ghost use Rattle.pdp_core.specs.Accesses.{next_made, after, address_made, load_m
 ghost use Rattle.pdp_core.specs.World.{word_written, byte_written};
 ghost use Rattle.pdp_values.specs.Values.{limit};
 ghost use Rattle.pdp_core.specs.Execute.{and_then, of_refused, of_memory, goes_on, reg, with_reg, pointer_reg, stride, fetch, load_word, next_word, address, load, operand, store, paired, left};
+ghost use Rattle.pdp_core.specs.Kept.{AllButCounter};
 ghost use Rattle.pdp_core.specs.Spots.{place_of, placed};
 
 use crate::cpu::{Failure, Kind, Refused, Regs, Spot};
@@ -153,6 +153,14 @@ fn step_up(regs: &mut Regs, n: u16, by: u16) -> u16
     at
 }
 
+/// What a register is once it is stepped down by the size of an operand.
+#[inline(always)]
+pub fn stepped_down(regs: &Regs, size: Size, n: u16) -> u16
+    ensures { result ≡ difference_of (reg regs.now (reg_of (n % 8))) (stride size (reg_of (n % 8))) }
+{
+    wrap_sub(get_at(regs, n), stride_of(size, n))
+}
+
 /// Steps a register down, and gives what it is then.
 #[inline(always)]
 fn step_down(regs: &mut Regs, n: u16, by: u16) -> u16
@@ -164,41 +172,26 @@ fn step_down(regs: &mut Regs, n: u16, by: u16) -> u16
     at
 }
 
-/// Gives a register of three bits and the program counter the words back that they had.
-#[inline(always)]
-pub fn undo(regs: &mut Regs, n: u16, x: u16, at: u16)
-    ensures { regs.new ≡ with_reg (with_reg regs.old (reg_of (n % 8)) x) Pc at }
-{
-    set_at(regs, n, x);
-    set(regs, Reg::Pc, at);
-}
-
 /// The address that stands at a register's word and the next word of the instruction, added.
 #[tactic(auto, using(crate::proofs::Undoing::word_given_back))]
 #[inline(always)]
 fn index_deferred<B: Bus>(bus: &mut B, regs: &mut Regs, n: u16) -> Result<u16, Failure>
     ensures value { and_then (next_word (B.world bus.old) regs.old) (λ x. and_then (load_word (B.world bus.old) (sum_of x.0 (reg x.1 (reg_of (n % 8))))) (λ a. Ok (a, x.1))) ≡ paired result regs.new }
     ensures kept { B.world bus.new ≡ B.world bus.old }
-    ensures err { OnErr result (regs.new ≡ regs.old) }
+    ensures err { OnErr result (AllButCounter regs.old regs.new) }
     ensures made { B.accesses bus.new ≡ after (next_word (B.world bus.old) regs.old) (λ x. noted (ReadsWord (sum_of x.0 (reg x.1 (reg_of (n % 8)))))) (next_made regs.old (B.accesses bus.old)) }
 {
-    let at = get(regs, Reg::Pc);
     let x = next(bus, regs)?;
-    match word_at(bus, wrap_add(x, get_at(regs, n))) {
-        Ok(a) => Ok(a),
-        Err(failure) => {
-            set(regs, Reg::Pc, at);
-            Err(failure)
-        }
-    }
+    word_at(bus, wrap_add(x, get_at(regs, n)))
 }
 
 /// Where the operand of six bits is: three for its mode, and three for its register.
+#[tactic(auto, using(crate::proofs::Undoing::counter_itself))]
 #[inline(always)]
 pub fn find<B: Bus>(bus: &mut B, size: Size, regs: &mut Regs, n: u16) -> Result<Spot, Failure>
     ensures value { address (B.world bus.old) size regs.old (operand_of n) ≡ placed result regs.new }
     ensures kept { B.world bus.new ≡ B.world bus.old }
-    ensures err { OnErr result (regs.new ≡ regs.old) }
+    ensures err { OnErr result (AllButCounter regs.old regs.new) }
     ensures made { B.accesses bus.new ≡ address_made (B.world bus.old) regs.old (operand_of n) (B.accesses bus.old) }
 {
     match n / 0o10 {
@@ -268,16 +261,15 @@ pub fn value<B: Bus>(bus: &mut B, size: Size, regs: &mut Regs, n: u16) -> Result
     ensures value { operand (B.world bus.old) size regs.old (operand_of n) ≡ paired result regs.new }
     ensures small { IfOk result (λ x. x < limit size) }
     ensures kept { B.world bus.new ≡ B.world bus.old }
-    ensures err { OnErr result (regs.new ≡ regs.old) }
+    ensures err { OnErr result (AllButCounter regs.old regs.new) }
     ensures made { B.accesses bus.new ≡ operand_made (B.world bus.old) size regs.old (operand_of n) (B.accesses bus.old) }
 {
     let kept = get_at(regs, n);
-    let at = get(regs, Reg::Pc);
     let place = find(bus, size, regs, n)?;
     match load_at(bus, size, regs, place) {
         Ok(x) => Ok(x),
         Err(failure) => {
-            undo(regs, n, kept, at);
+            set_at(regs, n, kept);
             Err(failure)
         }
     }

@@ -1,8 +1,5 @@
-use Rattle.std.proofs.Common.{◌%◌, ◌∙◌, ap}
-use Rattle.pdp_code.specs.declared.instruction.Reg.TheVariants.{Pc}
+use Rattle.std.proofs.Common.{◌%◌}
 use Rattle.pdp_code.specs.First.{reg_of}
-use Rattle.pdp_core.specs.declared.cpu.Regs.{Regs}
-use Rattle.pdp_core.specs.Execute.{with_reg}
 use Rattle.pdp_core.proofs.Undoing.{read_given_back, undone}
 use Rattle.pdp_core.proofs.execute.do_double.Goals as goal
 
@@ -11,6 +8,5 @@ returns-in-Err-clause-kept g c =
     let start = c.args.regs.now in
     let r = reg_of (c.args.s % 8) in
     let h = c.value.new.regs in
-    let back = read_given_back (g.B.Bus.world c.args.bus.now) c.SIZE.result start c.args.s c.in_ok-x.x h c.in_ok-x.ensures.value in
-    let put = c.undo.ensures ∙ ap (λ (k : Regs). with_reg (with_reg k r c.get_at-kept.result) Pc c.get-at.result) c.in-Err.ensures.kept in
-    undone start h c.undo.new.regs r c.get_at-kept.result c.get-at.result back c.get_at-kept.ensures c.get-at.ensures put
+    let back = read_given_back (g.B.Bus.world c.args.bus.now) c.SIZE-2.result start c.args.s c.in_ok-x-2.x h c.in_ok-x-2.ensures.value in
+    undone start h _ c.set_at.new.regs r c.get_at-kept.result back c.in-Err.ensures.kept c.get_at-kept.ensures c.set_at.ensures
