@@ -1,7 +1,8 @@
 -- The parsers of statements and bodies as functions, which decide by what comes next.
-use Rattle.std.specs.Prelude.{ℕ, zero, suc, Bool, List, [], ◌∷◌, Option, Some, None}
+use Rattle.std.specs.Prelude.{ℕ, zero, suc, Bool, List, [], ◌∷◌, Option, Some, None, Result, Ok, Err}
 use Rattle.rt_pieces.specs.declared.item.Item.{Item}
 use Rattle.rt_pieces.specs.declared.item.Mark.TheVariants as m
+use Rattle.rt_pieces.specs.declared.item.Word.{Word}
 use Rattle.rt_pieces.specs.declared.item.Word.TheVariants as w
 use Rattle.rt_grammar.specs.declared.at.At.{At}
 use Rattle.rt_grammar.specs.declared.at.Ident.{Ident}
@@ -25,6 +26,15 @@ use Rattle.rt_syntax_exprs.specs.Tables.{begins_expression, begins_mode_by_word}
 use Rattle.rt_syntax.specs.Tables.{begins_simple}
 use Rattle.rt_syntax_exprs.specs.ExpressionParser.{expression, place, condition}
 use Rattle.rt_syntax_exprs.specs.ModeParser.{mode_by_word}
+
+-- what was read, and a word behind it
+abbrev pub up_to : {A : Type 0} → Word → A → Parser A
+up_to w a = do _ ← word w; pure a
+
+-- what was read before, and what was read behind it
+abbrev pub beside : {A B C E : Type 0} → A → Result (B × C) E → Result ((A × B) × C) E
+beside a (Ok x) = Ok ((a, x.0), x.1)
+beside a (Err e) = Err e
 
 unfoldable pub becomes : Context → Parser Expr
 becomes c = do _ ← mark m.Becomes; expression c
@@ -164,6 +174,19 @@ to_head levels = do
 
 unfoldable pub loop_head : Context → ℕ → Parser (Option Control)
 loop_head c levels = choose (is_word w.For) (control_head c levels) (to_head levels)
+
+-- what of a loop stands before what it repeats
+unfoldable pub for_head : Context → ℕ → Parser (Option Control × Expr)
+for_head c levels = do
+  k ← loop_head c levels
+  limit ← expression c
+  _ ← word w.Do
+  pure (k, limit)
+
+unfoldable pub condition_up_to : Context → Word → Parser Cond
+condition_up_to c w = do
+  test ← condition c
+  up_to w test
 
 module _ (c : Context) (levels : ℕ) (inner : Parser (List Stmt)) where
   unfoldable pub body_of : Parser Body

@@ -13,11 +13,30 @@ use rt_grammar::{
 };
 use rt_pieces::{Item, Mark, Word};
 use rt_syntax_exprs::{
-    Chain, Context, Expr, begins_expression, begins_mode_by_word, condition, expression,
+    Chain, Cond, Context, Expr, begins_expression, begins_mode_by_word, condition, expression,
     mode_by_word, place,
 };
 use rt_words::List;
 use std::alloc::Global;
+
+/// What was read, where this word comes behind it.
+fn up_to<'a, T: Drop>(word: Word, found: T, items: &'a [Item]) -> Result<(T, &'a [Item]), Stop>
+    ensures { Gives (λ x. (x.0, x.1.now)) result (reads.up_to word found items.now) }
+{
+    let rest = after_word(word, items)?;
+    Ok((found, rest))
+}
+
+/// What was read before, and what was read behind it.
+fn beside<'a, A: Drop, B>(
+    before: A,
+    found: Result<(B, &'a [Item]), Stop>,
+) -> Result<((A, B), &'a [Item]), Stop>
+    ensures { result ≡ reads.beside before found.entry }
+{
+    let (found, rest) = found?;
+    Ok(((before, found), rest))
+}
 
 /// `:=` and an expression.
 #[tactic(auto, unfolding(crate::specs::StatementParser::becomes))]
@@ -321,6 +340,35 @@ fn labels(alloc: Global, context: Context, items: &[Item]) -> Result<(List<Ident
     Ok((all, rest))
 }
 
+/// FOR and its TO, or TO alone, the limit and DO.
+#[tactic(auto, unfolding(crate::specs::StatementParser::for_head))]
+fn for_head(
+    alloc: Global,
+    context: Context,
+    levels: usize,
+    items: &[Item],
+) -> Result<((Option<Control>, Expr), &[Item]), Stop>
+    ensures { Gives (λ x. (x.0, x.1.now)) result (reads.for_head context levels items.now) }
+{
+    let (control, rest) = loop_head(alloc, context, levels, items)?;
+    let (head, rest) = beside(control, expression(alloc, context, rest))?;
+    up_to(Word::Do, head, rest)
+}
+
+/// A condition, and this word behind it.
+#[tactic(auto, unfolding(crate::specs::StatementParser::condition_up_to))]
+fn condition_up_to(
+    alloc: Global,
+    context: Context,
+    word: Word,
+    items: &[Item],
+) -> Result<(Cond, &[Item]), Stop>
+    ensures { Gives (λ x. (x.0, x.1.now)) result (reads.condition_up_to context word items.now) }
+{
+    let (test, rest) = condition(alloc, context, items)?;
+    up_to(word, test, rest)
+}
+
 /// A sequence that stands in one of so many statements.
 #[cycle(statement)]
 #[tactic(auto, unfolding(crate::specs::StatementParser::inside))]
@@ -449,7 +497,7 @@ fn block(
 
 /// A condition, THEN and a sequence.
 #[cycle(statement)]
-#[tactic(auto, unfolding(crate::specs::StatementParser::branch_from))]
+#[tactic(auto, unfolding(crate::specs::StatementParser::branch_from, crate::specs::StatementParser::condition_up_to))]
 fn branch_from<'a>(
     alloc: Global,
     context: Context,
@@ -459,9 +507,8 @@ fn branch_from<'a>(
 ) -> Result<(Branch, &'a [Item]), Stop>
     ensures { Gives (λ x. (x.0, x.1.now)) result (reads.branch_from context levels (reads.inside context levels) at items.now) }
 {
-    let (test, rest) = condition(alloc, context, items)?;
-    let rest = after_word(Word::Then, rest)?;
-    let (taken, rest) = inside(alloc, context, levels, rest)?;
+    let (test, rest) = condition_up_to(alloc, context, Word::Then, items)?;
+    let ((test, taken), rest) = beside(test, inside(alloc, context, levels, rest))?;
     Ok((Branch { test, taken, at }, rest))
 }
 
@@ -533,7 +580,7 @@ fn conditional(
 
 /// FOR or TO, to REP.
 #[cycle(statement)]
-#[tactic(auto, unfolding(crate::specs::StatementParser::for_loop))]
+#[tactic(auto, unfolding(crate::specs::StatementParser::for_loop, crate::specs::StatementParser::for_head))]
 fn for_loop(
     alloc: Global,
     context: Context,
@@ -543,17 +590,15 @@ fn for_loop(
     ensures { Gives (λ x. (x.0, x.1.now)) result (reads.for_loop context levels (reads.inside context levels) items.now) }
 {
     let at = at_of(context.total, items);
-    let (control, rest) = loop_head(alloc, context, levels, items)?;
-    let (limit, rest) = expression(alloc, context, rest)?;
-    let rest = after_word(Word::Do, rest)?;
-    let (statements, rest) = inside(alloc, context, levels, rest)?;
-    let rest = after_word(Word::Rep, rest)?;
+    let (head, rest) = for_head(alloc, context, levels, items)?;
+    let (parts, rest) = beside(head, inside(alloc, context, levels, rest))?;
+    let (((control, limit), statements), rest) = up_to(Word::Rep, parts, rest)?;
     Ok((Simple::For(control, limit, statements, at), rest))
 }
 
 /// WHILE to REP.
 #[cycle(statement)]
-#[tactic(auto, unfolding(crate::specs::StatementParser::while_loop))]
+#[tactic(auto, unfolding(crate::specs::StatementParser::while_loop, crate::specs::StatementParser::condition_up_to))]
 fn while_loop(
     alloc: Global,
     context: Context,
@@ -564,10 +609,9 @@ fn while_loop(
 {
     let at = at_of(context.total, items);
     let rest = open_word(levels, Word::While, items)?;
-    let (test, rest) = condition(alloc, context, rest)?;
-    let rest = after_word(Word::Do, rest)?;
-    let (statements, rest) = inside(alloc, context, levels, rest)?;
-    let rest = after_word(Word::Rep, rest)?;
+    let (test, rest) = condition_up_to(alloc, context, Word::Do, rest)?;
+    let (parts, rest) = beside(test, inside(alloc, context, levels, rest))?;
+    let ((test, statements), rest) = up_to(Word::Rep, parts, rest)?;
     Ok((Simple::While(test, statements, at), rest))
 }
 
