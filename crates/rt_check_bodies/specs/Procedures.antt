@@ -1,5 +1,5 @@
 -- What a procedure's brick is, and the faults that stand in it.
-use Rattle.std.specs.Prelude.{Bool, true, false, not, ◌&&◌, List, [], ◌∷◌, Option, Some, None, Ok, Err}
+use Rattle.std.specs.Prelude.{◌≡◌, Bool, true, false, not, ◌&&◌, List, [], ◌∷◌, Option, Some, None, Ok, Err}
 use Rattle.rt_grammar.specs.declared.at.At.{At}
 use Rattle.rt_grammar.specs.declared.at.Ident.{Ident}
 use Rattle.rt_syntax_exprs.specs.declared.tree.WrittenMode.{WrittenMode}
@@ -71,6 +71,17 @@ closing r at b t = (b, closed_at r at b t)
 
 abbrev pub nothing_yet : Tally
 nothing_yet = record { locals = []; labels = 0; faults = [] }
+
+-- the parameters and the result
+abbrev pub head_in : Sight → ProcedureBrick → Part (Names × Answer)
+head_in s b = do names ← parameters s [] b.fields; r ← answer_in s b.at b.result; it_is (names, r)
+
+-- what is seen in a level of parameters, a result and a tally are what a head gives
+abbrev pub Opens : Sight → Answer → Tally → Sight → (Names × Answer) × Tally → Type 0
+Opens inside r t s given = (inside ≡ within given.0.0 s) × (r ≡ given.0.1) × (t ≡ given.1)
+
+abbrev pub closed_body : Answer → ProcedureBrick → Sight → Part BodyMade
+closed_body r b s = do made ← body r b.body s; closing r b.ends made
 
 abbrev pub body_in : Sight → ProcedureBrick → Part BodyMade
 body_in s b = do

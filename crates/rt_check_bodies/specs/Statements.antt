@@ -86,6 +86,10 @@ own_labels x = (out-Stmt x).labels
 
 -- ---- sequences
 
+-- the statements of a sequence, and what has been counted behind them
+abbrev pub Lines : Type 0
+Lines = List Labelled × Tally
+
 abbrev pub labelled : List ℕ → Option Stat → Labelled
 labelled ls x = roll-Labelled (record { labels = ls; stat = x })
 
@@ -194,6 +198,24 @@ bounds_in s c limit = do
   step ← any_int_in s c.step
   end ← int_in s limit
   it_is (record { start = start; step = step; end = end })
+
+-- the same without where it starts
+abbrev pub bounds_behind : Sight → Control → Expr → Part (Option Value × Value)
+bounds_behind s c limit = do
+  step ← any_int_in s c.step
+  end ← int_in s limit
+  it_is (step, end)
+
+-- the bounds of a loop, and the first of its locals
+abbrev pub for_head : Sight → Control → Expr → Part (Bounds × ℕ)
+for_head s c limit = do bounds ← bounds_in s c limit; k ← three_locals; it_is (bounds, k)
+
+-- the number of turns of a loop, and the first of its locals
+abbrev pub to_head : Sight → Expr → Part (Value × ℕ)
+to_head s limit = do count ← int_in s limit; k ← three_locals; it_is (count, k)
+
+abbrev pub for_stat : ℕ → Bounds → List Labelled → Stat
+for_stat k bounds repeated = stats.For k bounds.start bounds.step bounds.end repeated
 
 abbrev pub variable_of : Control → ℕ → Names
 variable_of c k = declared c.name.name (meaning.Loop k) []

@@ -17,6 +17,8 @@ mod faults;
 mod labels;
 mod locals;
 mod names;
+mod nested;
+mod pairs;
 mod parameters;
 mod plain;
 mod procedure;

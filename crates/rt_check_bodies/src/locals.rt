@@ -5,10 +5,13 @@ ghost use Rattle.rt_modes.specs.declared.mode.Mode.{Mode, out-Mode};
 ghost use Rattle.rt_tree_nodes.specs.declared.statement.LocalStart.{LocalStart};
 ghost use Rattle.rt_tree.specs.Statements.{starts_at_zero};
 ghost use Rattle.rt_check_faults.specs.Outcomes.{Outcome};
-ghost use Rattle.rt_check_bodies.specs.Parts.{Gave};
+ghost use Rattle.rt_tree_nodes.specs.declared.brick.Local.TheVariants as made;
+ghost use Rattle.rt_exprs.specs.declared.scope.Meaning.TheVariants as meaning;
+ghost use Rattle.rt_check_bodies.specs.Parts.{Gave, next_local, with_local};
 ghost use Rattle.rt_exprs.specs.Sights.{outside};
 ghost use Rattle.rt_check_bodies.specs.Statements as spec;
 
+use crate::pairs::both;
 use crate::{Names, Tally};
 use rt_check_faults::CheckFault;
 use rt_exprs::Meaning;
@@ -119,14 +122,29 @@ fn add_local<'a>(
     ensures kept { OnOk result (outside names.new ≡ outside names.old) }
 {
     let start = start(alloc, names, tally, &local.name, mode, &local.start)?;
+    let number = add_variable(alloc, names, tally, mode, &local.name);
+    let (start, local) = both(start, number)?;
+    starts.push(LocalStart { local, start })
+}
+
+/// The next local, which has a name and a mode: its number.
+fn add_variable<'a>(
+    alloc: Global,
+    names: &mut Names<'a>,
+    tally: &mut Tally,
+    mode: &Mode,
+    name: &'a Ident,
+) -> Result<u16, Memory>
+    ensures number { IfOk result (λ k. k ≡ next_local tally.old) }
+    ensures seen { IfOk result (λ k. names.new ≡ spec.with_ident name.now (meaning.Local k mode.now) names.old) }
+    ensures noted { OnOk result (tally.new ≡ with_local (made.Variable mode.now) (spec.noted_in names.old name.now tally.old)) }
+    ensures kept { OnOk result (outside names.new ≡ outside names.old) }
+{
     let number = tally.next_local()?;
     let meaning = Meaning::Local(number, copy_mode(alloc, mode)?);
-    declare(alloc, names, tally, &local.name, meaning)?;
-    starts.push(LocalStart {
-        local: number,
-        start,
-    })?;
-    tally.add_local(Made::Variable(copy_mode(alloc, mode)?))
+    declare(alloc, names, tally, name, meaning)?;
+    tally.add_local(Made::Variable(copy_mode(alloc, mode)?))?;
+    Ok(number)
 }
 
 /// A start, of which the local's mode is wanted.

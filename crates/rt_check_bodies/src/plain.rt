@@ -3,11 +3,12 @@
 ghost use Rattle.std.specs.Prelude.{◌≡◌, IfOk, OnOk};
 ghost use Rattle.rt_tree_nodes.specs.declared.value.Value.{Value};
 ghost use Rattle.rt_check_faults.specs.Outcomes.{Outcome, Gives};
-ghost use Rattle.rt_check_bodies.specs.Parts.{Gave};
+ghost use Rattle.rt_check_bodies.specs.Parts.{Gave, three_locals};
 ghost use Rattle.rt_exprs.specs.Sights.{within};
 ghost use Rattle.rt_check_bodies.specs.Statements as spec;
 
 use crate::answer::Answer;
+use crate::pairs::both;
 use crate::{Names, Tally, labels_in};
 use rt_check_faults::CheckFault;
 use rt_exprs::{Level, Meaning};
@@ -27,8 +28,36 @@ pub struct Bounds {
     pub end: Value,
 }
 
+/// The number of turns of a TO loop, and the first of its locals.
+pub fn to_head(
+    alloc: Global,
+    names: &Names<'_>,
+    tally: &mut Tally,
+    limit: &Expr,
+) -> Result<(Value, u16), Memory>
+    ensures { IfOk result (λ x. Gave (x.0, x.1) tally.new (spec.to_head names.now limit.now tally.old)) }
+{
+    let count = int(alloc, names, tally, limit)?;
+    both(count, tally.add_loop())
+}
+
+/// The bounds of a FOR loop, and the first of its locals, which is its variable: the level of the loop is open.
+pub fn for_head<'a>(
+    alloc: Global,
+    names: &mut Names<'a>,
+    tally: &mut Tally,
+    control: &'a Control,
+    limit: &Expr,
+) -> Result<(Bounds, u16), Memory>
+    ensures made { IfOk result (λ x. Gave (x.0, x.1) tally.new (spec.for_head names.old control.now limit.now tally.old)) }
+    ensures seen { IfOk result (λ x. names.new ≡ within (spec.variable_of control.now x.1) names.old) }
+{
+    let bounds = bounds_of(alloc, names, tally, control, limit)?;
+    both(bounds, enter_loop(alloc, names, tally, control))
+}
+
 /// The bounds of a FOR loop.
-pub fn bounds_of(
+fn bounds_of(
     alloc: Global,
     names: &Names<'_>,
     tally: &mut Tally,
@@ -38,22 +67,39 @@ pub fn bounds_of(
     ensures { IfOk result (λ b. Gave b tally.new (spec.bounds_in names.now control.now limit.now tally.old)) }
 {
     let start = int(alloc, names, tally, &control.start)?;
-    let step = any_int(alloc, names, tally, &control.step)?;
-    let end = int(alloc, names, tally, limit)?;
+    let (start, behind) = both(start, bounds_behind(alloc, names, tally, control, limit))?;
+    let (step, end) = behind;
     Ok(Bounds { start, step, end })
 }
 
-/// Opens the level of a FOR loop, which has its variable.
-pub fn enter_loop<'a>(
+/// By what a FOR loop goes on, and where it ends.
+fn bounds_behind(
+    alloc: Global,
+    names: &Names<'_>,
+    tally: &mut Tally,
+    control: &Control,
+    limit: &Expr,
+) -> Result<(Option<Value>, Value), Memory>
+    ensures { IfOk result (λ x. Gave (x.0, x.1) tally.new (spec.bounds_behind names.now control.now limit.now tally.old)) }
+{
+    let step = any_int(alloc, names, tally, &control.step)?;
+    both(step, int(alloc, names, tally, limit))
+}
+
+/// Opens the level of a FOR loop, which has its variable: the first of the three locals of the loop.
+fn enter_loop<'a>(
     alloc: Global,
     names: &mut Names<'a>,
+    tally: &mut Tally,
     control: &'a Control,
-    first: u16,
-) -> Result<(), Memory>
-    ensures { OnOk result (names.new ≡ within (spec.variable_of control.now first) names.old) }
+) -> Result<u16, Memory>
+    ensures made { IfOk result (λ k. Gave k tally.new (three_locals tally.old)) }
+    ensures seen { IfOk result (λ k. names.new ≡ within (spec.variable_of control.now k) names.old) }
 {
+    let first = tally.add_loop()?;
     let level = level_of(alloc, control, first)?;
-    names.enter(level)
+    names.enter(level)?;
+    Ok(first)
 }
 
 fn level_of<'a>(alloc: Global, control: &'a Control, first: u16) -> Result<Level<'a>, Memory>

@@ -7,8 +7,10 @@ ghost use Rattle.rt_check_bodies.specs.Procedures as spec;
 ghost use Rattle.rt_bricks.specs.Counted as counted;
 ghost use Rattle.rt_check_bodies.specs.Procedures.{Stands};
 ghost use Rattle.rt_check_bodies.specs.Parts.{Gave};
+ghost use Rattle.rt_exprs.specs.Sights.{outside};
 
 use crate::answer::Answer;
+use crate::pairs::both;
 use crate::parameters::{add_parameters, answer_of};
 use crate::statements::body;
 use crate::{Names, Tally, first_of};
@@ -100,13 +102,54 @@ fn body_in<'a>(
     ensures made { IfOk result (λ x. Gave x tally.new (spec.body_in names.old brick.now tally.old)) }
     ensures kept { OnOk result (names.new ≡ names.old) }
 {
+    let answer = head_in(alloc, names, tally, brick)?;
+    closed_body(alloc, names, tally, &answer, brick)
+}
+
+/// The parameters and the result of a procedure: the level of the parameters is open.
+fn head_in<'a>(
+    alloc: Global,
+    names: &mut Names<'a>,
+    tally: &mut Tally,
+    brick: &'a ProcedureBrick,
+) -> Result<Answer, Memory>
+    ensures { IfOk result (λ r. spec.Opens names.new r tally.new names.old (spec.head_in names.old brick.now tally.old)) }
+{
+    let level = level_of(alloc, names, tally, brick)?;
+    let answer = answer_of(alloc, names, tally, brick.at, &brick.result);
+    let (level, answer) = both(level, answer)?;
+    names.enter(level)?;
+    Ok(answer)
+}
+
+/// The level of the parameters.
+fn level_of<'a>(
+    alloc: Global,
+    names: &Names<'a>,
+    tally: &mut Tally,
+    brick: &'a ProcedureBrick,
+) -> Result<Level<'a>, Memory>
+    ensures { IfOk result (λ level. Gave level tally.new (spec.parameters names.now [] brick.now.fields tally.old)) }
+{
     let mut level = Level::new(alloc);
     add_parameters(alloc, names, &mut level, tally, brick.fields.as_slice())?;
-    let answer = answer_of(alloc, names, tally, brick.at, &brick.result)?;
-    names.enter(level)?;
-    let made = body(alloc, names, tally, &answer, &brick.body)?;
+    Ok(level)
+}
+
+/// The body of a procedure, whose level of parameters is closed behind it.
+fn closed_body<'a>(
+    alloc: Global,
+    names: &mut Names<'a>,
+    tally: &mut Tally,
+    answer: &Answer,
+    brick: &'a ProcedureBrick,
+) -> Result<Body, Memory>
+    ensures made { IfOk result (λ x. Gave x tally.new (spec.closed_body answer.now brick.now names.old tally.old)) }
+    ensures kept { OnOk result (names.new ≡ outside names.old) }
+{
+    let made = body(alloc, names, tally, answer, &brick.body)?;
     names.leave();
-    close(tally, &answer, brick.ends, &made)?;
+    close(tally, answer, brick.ends, &made)?;
     Ok(made)
 }
 

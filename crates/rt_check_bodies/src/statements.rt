@@ -6,7 +6,9 @@ ghost use Rattle.rt_check_bodies.specs.Statements as spec;
 
 use crate::answer::Answer;
 use crate::locals::declarations;
-use crate::plain::{bounds_of, enter_loop, goto, int, returned, switch};
+use crate::nested::{for_loop, if_else, to_loop, while_loop};
+use crate::pairs::both;
+use crate::plain::{for_head, goto, returned, switch, to_head};
 use crate::sequences::add_all_labels;
 use crate::{Names, Tally, numbers_from};
 use rt_exprs::Level;
@@ -129,31 +131,27 @@ fn statement<'a>(
             match otherwise {
                 None => Ok(Stat::If(tests, None)),
                 Some(otherwise) => {
-                    let made = sequence(alloc, names, tally, answer, otherwise.as_slice())?;
-                    Ok(Stat::If(tests, Some(made)))
+                    let made = sequence(alloc, names, tally, answer, otherwise.as_slice());
+                    if_else(tests, made)
                 }
             }
         }
         Simple::For(control, limit, repeated, _) => match control {
             None => {
-                let count = int(alloc, names, tally, limit)?;
-                let first = tally.add_loop()?;
-                let made = sequence(alloc, names, tally, answer, repeated.as_slice())?;
-                Ok(Stat::To(first, count, made))
+                let head = to_head(alloc, names, tally, limit)?;
+                let repeated = sequence(alloc, names, tally, answer, repeated.as_slice());
+                to_loop(head, repeated)
             }
             Some(control) => {
-                let bounds = bounds_of(alloc, names, tally, control, limit)?;
-                let first = tally.add_loop()?;
-                enter_loop(alloc, names, control, first)?;
-                let made = sequence(alloc, names, tally, answer, repeated.as_slice())?;
-                names.leave();
-                Ok(Stat::For(first, bounds.start, bounds.step, bounds.end, made))
+                let head = for_head(alloc, names, tally, control, limit)?;
+                let repeated = sequence(alloc, names, tally, answer, repeated.as_slice());
+                for_loop(names, head, repeated)
             }
         },
         Simple::While(condition, repeated, _) => {
             let test = tally.test_or(names.test(alloc, condition))?;
-            let repeated = sequence(alloc, names, tally, answer, repeated.as_slice())?;
-            Ok(Stat::While(test, repeated))
+            let repeated = sequence(alloc, names, tally, answer, repeated.as_slice());
+            while_loop(test, repeated)
         }
     }
 }
@@ -172,9 +170,26 @@ fn branches<'a>(
 {
     let mut made = List::new(alloc, branches.len())?;
     for branch in branches {
-        let test = tally.test_or(names.test(alloc, &branch.test))?;
-        let taken = sequence(alloc, names, tally, answer, branch.taken.as_slice())?;
-        made.push(BranchMade { test, taken })?;
+        let branch = one_branch(alloc, names, tally, answer, branch)?;
+        made.push(branch)?;
     }
     Ok(made)
+}
+
+/// A branch of an IF.
+#[cycle(bodies)]
+fn one_branch<'a>(
+    alloc: Global,
+    names: &mut Names<'a>,
+    tally: &mut Tally,
+    answer: &Answer,
+    branch: &'a Branch,
+) -> Result<BranchMade, Memory>
+    ensures made { IfOk result (λ x. Gave x tally.new (spec.branch answer.now branch.now names.old tally.old)) }
+    ensures kept { OnOk result (names.new ≡ names.old) }
+{
+    let test = tally.test_or(names.test(alloc, &branch.test))?;
+    let taken = sequence(alloc, names, tally, answer, branch.taken.as_slice());
+    let (test, taken) = both(test, taken)?;
+    Ok(BranchMade { test, taken })
 }
