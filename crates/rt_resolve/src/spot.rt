@@ -9,13 +9,14 @@ ghost use Rattle.rt_modes.specs.declared.mode.Mode.{out-Mode};
 ghost use Rattle.rt_work_state.specs.Nodes as n;
 ghost use Rattle.rt_resolve.specs.Trees as trees;
 
-use crate::share::{both_shared, shared};
+use crate::share::shared;
 use rt_modes::Mode;
 use rt_tree::{Found, Lent, ValueMode, copy_mode};
 use rt_tree_nodes::copy_lent;
 use rt_words::Memory;
 use rt_work_state::{PathNode, StmtNode, TermNode};
 use std::alloc::Global;
+use std::rc::Rc;
 
 /// What a place is: a local, a shared place, or the array behind a REF ARRAY.
 #[derive(Drop)]
@@ -69,9 +70,9 @@ pub fn element(
     alloc: Global,
     spot: Spot,
     found: &Option<Found<'_>>,
-    subscript: TermNode,
+    subscript: Rc<TermNode>,
 ) -> Result<Spot, Memory>
-    ensures { IfOk result (λ s. trees.spot s ≡ typing.element_in (seen.place_found found.now) (trees.spot spot) (n.term subscript)) }
+    ensures { IfOk result (λ s. trees.spot s ≡ typing.element_in (seen.place_found found.now) (trees.spot spot) (n.term subscript.value)) }
 {
     match spot {
         Spot::Local(i) => Ok(Spot::Local(i)),
@@ -87,21 +88,32 @@ fn element_path(
     alloc: Global,
     mode: &Lent<'_>,
     path: PathNode,
-    subscript: TermNode,
+    subscript: Rc<TermNode>,
 ) -> Result<PathNode, Memory>
-    ensures { IfOk result (λ q. n.path q ≡ typing.element_path (out-Mode (seen.lent mode.now)) (n.path path) (n.term subscript)) }
+    ensures { IfOk result (λ q. n.path q ≡ typing.element_path (out-Mode (seen.lent mode.now)) (n.path path) (n.term subscript.value)) }
 {
     match mode {
         Lent::Of(mode) => match mode {
-            Mode::Array(length, of) => {
-                let (path, subscript) = both_shared(alloc, path, subscript)?;
-                let of = copy_mode(alloc, of.get())?;
-                Ok(PathNode::Elem(path, subscript, *length, of))
-            }
+            Mode::Array(length, of) => element_of_array(alloc, *length, of.get(), path, subscript),
             _ => Ok(path),
         },
         _ => Ok(path),
     }
+}
+
+// An element of an array, by its length and the mode of its elements.
+fn element_of_array(
+    alloc: Global,
+    length: u16,
+    of: &Mode,
+    path: PathNode,
+    subscript: Rc<TermNode>,
+) -> Result<PathNode, Memory>
+    ensures { IfOk result (λ q. n.path q ≡ tree.Elem (n.path path) (n.term subscript.value) length of.now) }
+{
+    let path = shared(alloc, path)?;
+    let of = copy_mode(alloc, of)?;
+    Ok(PathNode::Elem(path, subscript, length, of))
 }
 
 // An element of the array behind a REF ARRAY.
@@ -109,21 +121,31 @@ fn element_of_row(
     alloc: Global,
     found: &Option<Found<'_>>,
     row: TermNode,
-    subscript: TermNode,
+    subscript: Rc<TermNode>,
 ) -> Result<Spot, Memory>
-    ensures { IfOk result (λ s. trees.spot s ≡ typing.element_in (seen.place_found found.now) (typing.OnRow (n.term row)) (n.term subscript)) }
+    ensures { IfOk result (λ s. trees.spot s ≡ typing.element_in (seen.place_found found.now) (typing.OnRow (n.term row)) (n.term subscript.value)) }
 {
     match found {
         None => Ok(Spot::Row(row)),
         Some(found) => match found {
-            Found::Row(mode) => {
-                let (row, subscript) = both_shared(alloc, row, subscript)?;
-                let of = copy_lent(alloc, mode)?;
-                Ok(Spot::Path(PathNode::ElemRow(row, subscript, of)))
-            }
+            Found::Row(mode) => element_behind(alloc, mode, row, subscript),
             _ => Ok(Spot::Row(row)),
         },
     }
+}
+
+// An element behind a reference to an array, by the mode of its elements.
+fn element_behind(
+    alloc: Global,
+    mode: &Lent<'_>,
+    row: TermNode,
+    subscript: Rc<TermNode>,
+) -> Result<Spot, Memory>
+    ensures { IfOk result (λ s. trees.spot s ≡ typing.OnPath (tree.ElemRow (n.term row) (n.term subscript.value) (seen.lent mode.now))) }
+{
+    let row = shared(alloc, row)?;
+    let of = copy_lent(alloc, mode)?;
+    Ok(Spot::Path(PathNode::ElemRow(row, subscript, of)))
 }
 
 /// Where a reference leads.
@@ -167,8 +189,8 @@ pub fn read(alloc: Global, spot: Spot, found: &Option<Found<'_>>) -> Result<Term
     match spot {
         Spot::Local(i) => Ok(TermNode::Own(i)),
         Spot::Path(path) => {
-            let mode = copy_lent(alloc, &mode_at(found))?;
-            Ok(TermNode::Get(mode, shared(alloc, path)?))
+            let path = shared(alloc, path)?;
+            Ok(TermNode::Get(copy_lent(alloc, &mode_at(found))?, path))
         }
         Spot::Row(row) => Ok(row),
     }
@@ -227,17 +249,27 @@ pub fn assigned(
     alloc: Global,
     spot: Spot,
     found: &Option<Found<'_>>,
-    value: TermNode,
+    value: Rc<TermNode>,
 ) -> Result<StmtNode, Memory>
-    ensures { IfOk result (λ s. n.stmt s ≡ statements.assigned_tree (trees.placed_by (seen.place_found found.now) (trees.spot spot)) (n.term value)) }
+    ensures { IfOk result (λ s. n.stmt s ≡ statements.assigned_tree (trees.placed_by (seen.place_found found.now) (trees.spot spot)) (n.term value.value)) }
 {
     match spot {
-        Spot::Local(i) => Ok(StmtNode::Keep(i, shared(alloc, value)?)),
-        Spot::Path(path) => {
-            let (path, value) = both_shared(alloc, path, value)?;
-            let mode = copy_lent(alloc, &mode_at(found))?;
-            Ok(StmtNode::Put(mode, path, value))
-        }
-        Spot::Row(_row) => Ok(StmtNode::Run(shared(alloc, value)?)),
+        Spot::Local(i) => Ok(StmtNode::Keep(i, value)),
+        Spot::Path(path) => put(alloc, &mode_at(found), path, value),
+        Spot::Row(_row) => Ok(StmtNode::Run(value)),
     }
+}
+
+// What is put at a shared place, by its mode.
+fn put(
+    alloc: Global,
+    mode: &Lent<'_>,
+    path: PathNode,
+    value: Rc<TermNode>,
+) -> Result<StmtNode, Memory>
+    ensures { IfOk result (λ s. n.stmt s ≡ tree.Put (seen.lent mode.now) (n.path path) (n.term value.value)) }
+{
+    let path = shared(alloc, path)?;
+    let mode = copy_lent(alloc, mode)?;
+    Ok(StmtNode::Put(mode, path, value))
 }

@@ -13,15 +13,16 @@ use crate::join::{
     BranchNode, Joins, Line, joined_branches, joined_labels, joined_lines, joined_statements,
     joined_tests,
 };
-use crate::share::{both_shared, shared};
+use crate::share::shared;
 use crate::spot::assigned;
-use crate::values::{spot, term};
+use crate::values::{shared_term, spot};
 use rt_tree::{
     Body, Branch, Labelled, LocalStart, Place, Rel, Scope, Stat, Test, Value, found_at, result_of,
 };
 use rt_words::{List, Memory};
 use rt_work_state::{CondNode, SeqNode, StmtNode, TermNode};
 use std::alloc::Global;
+use std::rc::Rc;
 
 /// The plain tree of a condition.
 #[cycle(tests)]
@@ -61,9 +62,8 @@ fn compare(
 ) -> Result<CondNode, Memory>
     ensures { IfOk result (λ t. n.cond t ≡ trees.comparison (seen.scope scope.now) relation left.now right.now) }
 {
-    let left = term(alloc, scope, left)?;
-    let right = term(alloc, scope, right)?;
-    let (left, right) = both_shared(alloc, left, right)?;
+    let left = shared_term(alloc, scope, left)?;
+    let right = shared_term(alloc, scope, right)?;
     Ok(CondNode::Is(relation, left, right))
 }
 
@@ -187,8 +187,8 @@ fn to_loop(
 ) -> Result<StmtNode, Memory>
     ensures { IfOk result (λ s. n.stmt s ≡ tree.To local (trees.value_tree (seen.scope scope.now) turns.now) (n.seq lines)) }
 {
-    let turns = term(alloc, scope, turns)?;
-    let (turns, lines) = both_shared(alloc, turns, lines)?;
+    let lines = shared(alloc, lines)?;
+    let turns = shared_term(alloc, scope, turns)?;
     Ok(StmtNode::To(local, turns, lines))
 }
 
@@ -200,8 +200,8 @@ fn while_loop(
 ) -> Result<StmtNode, Memory>
     ensures { IfOk result (λ s. n.stmt s ≡ tree.While (statements.tested (seen.scope scope.now) test.now).tree (n.seq lines)) }
 {
-    let test = cond(alloc, scope, test)?;
-    let (test, lines) = both_shared(alloc, test, lines)?;
+    let lines = shared(alloc, lines)?;
+    let test = shared(alloc, cond(alloc, scope, test)?)?;
     Ok(StmtNode::While(test, lines))
 }
 
@@ -209,8 +209,7 @@ fn while_loop(
 fn called(alloc: Global, scope: &Scope<'_>, value: &Value) -> Result<StmtNode, Memory>
     ensures { IfOk result (λ s. n.stmt s ≡ statements.call_tree (typing.valued (seen.scope scope.now) value.now)) }
 {
-    let call = term(alloc, scope, value)?;
-    let call = shared(alloc, call)?;
+    let call = shared_term(alloc, scope, value)?;
     Ok(match result_of(scope, value) {
         Some(Some(_)) => StmtNode::Toss(call),
         Some(None) => StmtNode::Run(call),
@@ -226,7 +225,7 @@ fn assign(
 ) -> Result<StmtNode, Memory>
     ensures { IfOk result (λ s. n.stmt s ≡ statements.assigned_tree (typing.placed (seen.scope scope.now) place.now) (typing.valued (seen.scope scope.now) value.now).tree) }
 {
-    let value = term(alloc, scope, value)?;
+    let value = shared_term(alloc, scope, value)?;
     let inner = spot(alloc, scope, place)?;
     assigned(alloc, inner, &found_at(scope, place), value)
 }
@@ -236,10 +235,7 @@ fn returned(alloc: Global, scope: &Scope<'_>, value: &Option<Value>) -> Result<S
 {
     match value {
         None => Ok(StmtNode::Back),
-        Some(value) => {
-            let value = term(alloc, scope, value)?;
-            Ok(StmtNode::GiveBack(shared(alloc, value)?))
-        }
+        Some(value) => Ok(StmtNode::GiveBack(shared_term(alloc, scope, value)?)),
     }
 }
 
@@ -251,9 +247,8 @@ fn switch(
 ) -> Result<StmtNode, Memory>
     ensures { IfOk result (λ s. n.stmt s ≡ trees.switch (seen.scope scope.now) value.now labels.now) }
 {
-    let value = term(alloc, scope, value)?;
-    let labels = joined_labels(alloc, labels)?;
-    let (value, labels) = both_shared(alloc, value, labels)?;
+    let value = shared_term(alloc, scope, value)?;
+    let labels = shared(alloc, joined_labels(alloc, labels)?)?;
     Ok(StmtNode::Switch(value, labels))
 }
 
@@ -261,9 +256,9 @@ fn switch(
 #[derive(Drop)]
 struct ForHead {
     local: u16,
-    start: TermNode,
-    step: TermNode,
-    end: TermNode,
+    start: Rc<TermNode>,
+    step: Rc<TermNode>,
+    end: Rc<TermNode>,
 }
 
 fn for_head(
@@ -275,13 +270,13 @@ fn for_head(
     end: &Value,
 ) -> Result<ForHead, Memory>
     ensures local { IfOk result (λ h. h.local ≡ local) }
-    ensures start { IfOk result (λ h. n.term h.start ≡ trees.value_tree (seen.scope scope.now) start.now) }
-    ensures step { IfOk result (λ h. n.term h.step ≡ statements.step_tree (seen.scope scope.now) step.now) }
-    ensures end { IfOk result (λ h. n.term h.end ≡ trees.value_tree (seen.scope scope.now) end.now) }
+    ensures start { IfOk result (λ h. n.term h.start.value ≡ trees.value_tree (seen.scope scope.now) start.now) }
+    ensures step { IfOk result (λ h. n.term h.step.value ≡ statements.step_tree (seen.scope scope.now) step.now) }
+    ensures end { IfOk result (λ h. n.term h.end.value ≡ trees.value_tree (seen.scope scope.now) end.now) }
 {
-    let start = term(alloc, scope, start)?;
+    let start = shared_term(alloc, scope, start)?;
     let step = step_of(alloc, scope, step)?;
-    let end = term(alloc, scope, end)?;
+    let end = shared_term(alloc, scope, end)?;
     Ok(ForHead {
         local,
         start,
@@ -291,26 +286,25 @@ fn for_head(
 }
 
 // The step of a FOR; 1 where it is left out.
-fn step_of(alloc: Global, scope: &Scope<'_>, step: &Option<Value>) -> Result<TermNode, Memory>
-    ensures { IfOk result (λ t. n.term t ≡ statements.step_tree (seen.scope scope.now) step.now) }
+fn step_of(alloc: Global, scope: &Scope<'_>, step: &Option<Value>) -> Result<Rc<TermNode>, Memory>
+    ensures { IfOk result (λ t. n.term t.value ≡ statements.step_tree (seen.scope scope.now) step.now) }
 {
     match step {
-        None => Ok(TermNode::Num(1)),
-        Some(step) => term(alloc, scope, step),
+        None => shared(alloc, TermNode::Num(1)),
+        Some(step) => shared_term(alloc, scope, step),
     }
 }
 
 fn for_loop(alloc: Global, head: ForHead, lines: SeqNode) -> Result<StmtNode, Memory>
-    ensures { IfOk result (λ s. n.stmt s ≡ tree.For head.local (n.term head.start) (n.term head.step) (n.term head.end) (n.seq lines)) }
+    ensures { IfOk result (λ s. n.stmt s ≡ tree.For head.local (n.term head.start.value) (n.term head.step.value) (n.term head.end.value) (n.seq lines)) }
 {
+    let lines = shared(alloc, lines)?;
     let ForHead {
         local,
         start,
         step,
         end,
     } = head;
-    let (end, lines) = both_shared(alloc, end, lines)?;
-    let (start, step) = both_shared(alloc, start, step)?;
     Ok(StmtNode::For(local, start, step, end, lines))
 }
 
@@ -320,10 +314,7 @@ fn start(alloc: Global, scope: &Scope<'_>, local: &LocalStart) -> Result<StmtNod
 {
     match &local.start {
         None => Ok(StmtNode::Clear(local.local)),
-        Some(value) => {
-            let value = term(alloc, scope, value)?;
-            Ok(StmtNode::Keep(local.local, shared(alloc, value)?))
-        }
+        Some(value) => Ok(StmtNode::Keep(local.local, shared_term(alloc, scope, value)?)),
     }
 }
 

@@ -8,7 +8,7 @@ ghost use Rattle.rt_work_state.specs.Nodes as n;
 ghost use Rattle.rt_resolve.specs.Trees as trees;
 
 use crate::join::joined_terms;
-use crate::share::{both_shared, shared};
+use crate::share::shared;
 use crate::spot::{Spot, element, field, led, length, read, reference};
 use rt_modes::Mode;
 use rt_tree::{Callee, Op2, Place, Scope, Value, ValueMode, found_at, mode_of};
@@ -32,8 +32,8 @@ pub fn spot(alloc: Global, scope: &Scope<'_>, place: &Place) -> Result<Spot, Mem
             field(alloc, inner, &found_at(scope, record.get()), *k)
         }
         Place::Element(array, subscript) => {
+            let subscript = shared(alloc, term(alloc, scope, subscript.get())?)?;
             let inner = spot(alloc, scope, array.get())?;
-            let subscript = term(alloc, scope, subscript.get())?;
             element(alloc, inner, &found_at(scope, array.get()), subscript)
         }
         Place::Through(reference) => {
@@ -69,9 +69,9 @@ pub fn term(alloc: Global, scope: &Scope<'_>, value: &Value) -> Result<TermNode,
             Ok(TermNode::One(*operator, shared(alloc, operand)?))
         }
         Value::Dyadic(operator, left, right) => {
-            let left = term(alloc, scope, left.get())?;
-            let right = term(alloc, scope, right.get())?;
-            dyadic(alloc, *operator, left, right)
+            let left = shared(alloc, term(alloc, scope, left.get())?)?;
+            let right = shared(alloc, term(alloc, scope, right.get())?)?;
+            Ok(dyadic(*operator, left, right))
         }
         Value::Call(callee, arguments) => {
             let arguments = arguments_of(alloc, scope, arguments.as_slice())?;
@@ -111,11 +111,11 @@ fn call(
 ) -> Result<TermNode, Memory>
     ensures { IfOk result (λ t. n.term t ≡ (typing.called (seen.scope scope.now) callee.now).tree (n.terms arguments)) }
 {
+    let arguments = shared(alloc, arguments)?;
     match callee {
-        Callee::Brick(b) => Ok(TermNode::Apply(*b, shared(alloc, arguments)?)),
+        Callee::Brick(b) => Ok(TermNode::Apply(*b, arguments)),
         Callee::Through(value) => {
             let procedure = term(alloc, scope, value.get())?;
-            let arguments = shared(alloc, arguments)?;
             call_by(alloc, &mode_of(scope, value.get()), procedure, arguments)
         }
     }
@@ -138,12 +138,19 @@ fn call_by(
     Ok(TermNode::ApplyBy(mode, procedure, arguments))
 }
 
-fn dyadic(alloc: Global, operator: Op2, left: TermNode, right: TermNode) -> Result<TermNode, Memory>
-    ensures { IfOk result (λ t. n.term t ≡ typing.dyadic_tree operator (n.term left) (n.term right)) }
+fn dyadic(operator: Op2, left: Rc<TermNode>, right: Rc<TermNode>) -> TermNode
+    ensures { n.term result ≡ typing.dyadic_tree operator (n.term left.value) (n.term right.value) }
 {
-    let (left, right) = both_shared(alloc, left, right)?;
-    Ok(match operator {
+    match operator {
         Op2::Divide | Op2::Mod => TermNode::Over(operator, left, right),
         _ => TermNode::Two(operator, left, right),
-    })
+    }
+}
+
+/// The plain tree of a value, shared.
+pub fn shared_term(alloc: Global, scope: &Scope<'_>, value: &Value) -> Result<Rc<TermNode>, Memory>
+    ensures { IfOk result (λ t. n.term t.value ≡ trees.value_tree (seen.scope scope.now) value.now) }
+{
+    let value = term(alloc, scope, value)?;
+    shared(alloc, value)
 }
