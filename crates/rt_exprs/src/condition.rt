@@ -1,13 +1,13 @@
 //! Conditions.
 
-ghost use Rattle.std.specs.Prelude.{◌≡◌, Ok, [], map, option_map, IfOk, IfErr};
+ghost use Rattle.std.specs.Prelude.{◌≡◌, Ok, Some, [], map, option_map, IfOk, IfErr};
 ghost use Rattle.rt_tree_nodes.specs.declared.statement.Test.{Test};
 ghost use Rattle.rt_check_faults.specs.Outcomes.{Settles, IsAnswered, Gives};
 ghost use Rattle.rt_exprs.specs.Fitting.{TestIs, FaultInTest};
 ghost use Rattle.rt_modes.specs.declared.mode.Mode.TheVariants as mode;
 ghost use Rattle.rt_modes.specs.declared.mode.Mode.{out-Mode};
 ghost use Rattle.rt_exprs.specs.Judging as spec;
-ghost use Rattle.rt_exprs.specs.Operands.{seen, want_of};
+ghost use Rattle.rt_exprs.specs.Operands.{judged_of, seen, want_of};
 
 use crate::expression::{fit_by_itself, fit_wanted, judge};
 use crate::operators::{base_in, frac_or_int};
@@ -85,13 +85,25 @@ fn compare(
             let fault = CheckFault::WrongMode(first);
             Err(fault.sooner(fit_by_itself(alloc, right, scope)))
         }
-        Some(wanted) => {
-            let x = suits(alloc, operand, wanted);
-            let y = fit_wanted(alloc, scope, right, wanted);
-            let (x, y) = both(x, y)?;
-            Ok(Test::Compare(made_relation(relation), x, y))
-        }
+        Some(wanted) => compare_with(alloc, relation, operand, right, wanted, scope),
     }
+}
+
+/// A comparison, by what it wants of both sides.
+fn compare_with(
+    alloc: Global,
+    relation: Rel,
+    left: Operand<'_>,
+    right: &Expr,
+    wanted: Wanted<'_>,
+    scope: &Scope<'_>,
+) -> Result<Test, CheckFault>
+    ensures { Gives (λ t. t) result (spec.compare_by relation (judged_of left.entry) (spec.judged scope.now right.now) (Some (want_of wanted.entry))) }
+{
+    let x = suits(alloc, left, wanted);
+    let y = fit_wanted(alloc, scope, right, wanted);
+    let (x, y) = both(x, y)?;
+    Ok(Test::Compare(made_relation(relation), x, y))
 }
 
 /// What a relation wants of both sides, by its left side.

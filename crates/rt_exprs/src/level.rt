@@ -72,7 +72,10 @@ impl<'n> Level<'n> {
         ensures { OnOk result (self.new ≡ self.old ++ (name.now, meaning) ∷ []) }
     {
         match self.names.insert(name, meaning) {
-            Ok(_) => Ok(()),
+            Ok(earlier) => {
+                drop(earlier);
+                Ok(())
+            }
             Err(_) => Err(Memory),
         }
     }
