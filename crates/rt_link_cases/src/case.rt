@@ -5,7 +5,7 @@ use crate::needs::tell_calls;
 use crate::read::{read_objects, read_one};
 use crate::tasks::read_tasks;
 use crate::verdict::tell_verdict;
-use rt_listing::listing;
+use rt_report::listing;
 use rt_system::System;
 use rt_words::{Memory, Text};
 use std::alloc::Global;

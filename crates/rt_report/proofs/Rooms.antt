@@ -6,7 +6,7 @@ use Rattle.pdp_core.specs.declared.cpu.Kind.{Kind}
 use Rattle.pdp_core.specs.declared.cpu.Kind.TheVariants as kind
 use Rattle.rt_words.specs.Operators.{octal6}
 use Rattle.rt_report.specs.Faults.{kind_text, machine_words, console_words}
-use Rattle.rt_report_lines.specs.Lines.{behind, line}
+use Rattle.rt_report.specs.Lines.{behind, line}
 use Rattle.rt_report.specs.Reports.{name_at, name_or_none, names_room}
 
 -- ---- numbers

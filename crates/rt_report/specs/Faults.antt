@@ -12,7 +12,7 @@ use Rattle.rt_report.specs.declared.fault.Form.TheVariants as form
 use Rattle.rt_report.specs.declared.fault.ProcName.{ProcName}
 use Rattle.rt_report.specs.declared.fault.TextFault.{TextFault}
 use Rattle.rt_report.specs.declared.fault.TextFault.TheVariants as text
-use Rattle.rt_report_lines.specs.Lines.{line, lines, dotted}
+use Rattle.rt_report.specs.Lines.{line, lines, dotted}
 
 abbrev pub number_of : TextFault → ℕ
 number_of text.BadCharacter = 1

@@ -1,2 +1,10 @@
+pub mod Lines
 pub mod Faults
 pub mod Reports
+pub mod Maps
+pub mod Stacks
+pub mod StackNeeds
+pub mod Laws
+pub mod ListingLaws
+pub mod Listing
+pub mod Writing

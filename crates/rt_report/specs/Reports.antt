@@ -7,7 +7,7 @@ use Rattle.rt_run.specs.declared.machine.End.{End}
 use Rattle.rt_run.specs.declared.machine.End.TheVariants.{Ended, Limit, Stalled, Fault, ReadFault, WriteFault}
 use Rattle.rt_run.specs.Picture.{Standing}
 use Rattle.rt_report.specs.Faults.{console_words, machine_words}
-use Rattle.rt_report_lines.specs.Lines.{lines}
+use Rattle.rt_report.specs.Lines.{lines}
 
 -- ---- tasks
 

@@ -1,13 +1,14 @@
 //! Fault lines, and the reports of refusals.
 
 ghost use Rattle.std.specs.Prelude.{◌≡◌, ◌≤◌, ◌++◌, ◌∷◌, [], IfOk, OnOk, IsOk, length, codes, decimal, map};
-ghost use Rattle.rt_report_lines.specs.Lines.{line, text_of, texts_of};
+ghost use Rattle.rt_report.specs.Lines.{line, text_of, texts_of};
 ghost use Rattle.rt_report.specs.Faults as spec;
 ghost use Rattle.rt_report.specs.declared.fault.FaultLine.TheVariants as fault;
 
 use crate::fault::{FaultLine, FileKind, Form, ProcName, TextFault};
+use crate::line::put_line;
+use crate::word::Word;
 use pdp_core::Kind;
-use rt_report_lines::{Word, put_line};
 use rt_words::{List, Memory, Name, Text, octal6};
 use std::alloc::Global;
 

@@ -3,12 +3,13 @@
 ghost use Rattle.std.specs.Prelude.{◌≡◌, ◌≤◌, ◌+◌, ◌*◌, ◌++◌, ◌∷◌, [], length, decimal, codes, IfOk};
 ghost use Rattle.rt_rules.specs.Roster.{IsTask};
 ghost use Rattle.rt_report.specs.Faults.{machine_words};
-ghost use Rattle.rt_report_lines.specs.Lines.{line, lines, text_of, texts_of};
+ghost use Rattle.rt_report.specs.Lines.{line, lines, text_of, texts_of};
 ghost use Rattle.rt_report.specs.Reports as spec;
 
 use crate::faults::{put_console, put_machine};
+use crate::line::put_line;
+use crate::word::Word;
 use pdp_core::Kind;
-use rt_report_lines::{Word, put_line};
 use rt_rules::State;
 use rt_run::{End, Run};
 use rt_words::{Memory, Name, Text};

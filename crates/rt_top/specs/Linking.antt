@@ -9,7 +9,7 @@ use Rattle.rt_image.specs.Grammar.{IsImage}
 use Rattle.rt_link.specs.Linked.{IsLinked}
 use Rattle.rt_object.specs.declared.object.ObjectParts.{ObjectParts}
 use Rattle.rt_outside.specs.Files.{Files}
-use Rattle.rt_report_map.specs.Texts.{map_text}
+use Rattle.rt_report.specs.Maps.{map_text}
 use Rattle.rt_system.specs.declared.parts.SystemParts.{SystemParts}
 use Rattle.rt_top.specs.Calls.{Call, before, after, KeepsInput, DoesAll}
 use Rattle.rt_top.specs.FileEnds.{FileEnds}

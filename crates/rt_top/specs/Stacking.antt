@@ -7,7 +7,7 @@ use Rattle.rt_link_verdict.specs.declared.judged.Judged.{Judged}
 use Rattle.rt_link_verdict.specs.Verdict.{IsJudged}
 use Rattle.rt_object.specs.declared.object.ObjectParts.{ObjectParts}
 use Rattle.rt_outside.specs.Files.{Files}
-use Rattle.rt_report_stacks.specs.Table.{table_text}
+use Rattle.rt_report.specs.Stacks.{table_text}
 use Rattle.rt_system.specs.declared.parts.SystemParts.{SystemParts}
 use Rattle.rt_top.specs.Calls.{Call, Says}
 use Rattle.rt_top.specs.FileEnds.{FileEnds}

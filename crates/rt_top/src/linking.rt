@@ -2,7 +2,7 @@
 
 ghost use Rattle.std.specs.Prelude.{◌≡◌, ◌≤◌, ℕ, List, length, IfOk, IfErr};
 ghost use Rattle.rt_image.specs.Grammar.{IsImage};
-ghost use Rattle.rt_report_map.specs.Texts.{map_text};
+ghost use Rattle.rt_report.specs.Maps.{map_text};
 ghost use Rattle.rt_top.specs.Calls.{the_call};
 ghost use Rattle.rt_top.specs.Linking.{AreMade, AreLinked, IsUnlinked, LinkEnds, link_names};
 ghost use Rattle.rt_top_files.specs.Reading.{IsDeclined};
@@ -13,7 +13,7 @@ use crate::reporting::{decline, write_both};
 use rt_image::{Image, Map, write_image};
 use rt_link::link as link_modules;
 use rt_outside::{Sink, Store};
-use rt_report_map::map_text;
+use rt_report::map_text;
 use rt_top_files::Unaccepted;
 use rt_top_systems::{Modules, accept_modules, not_linked};
 use rt_words::{Bytes, Memory};

@@ -5,8 +5,8 @@ ghost use Rattle.rt_top.specs.Calls.{the_call};
 ghost use Rattle.rt_top.specs.Showing.{ShowEnds};
 
 use crate::reporting::{DONE, NO_MEMORY, decline, tell};
-use rt_listing::listing;
 use rt_outside::{Sink, Store};
+use rt_report::listing;
 use rt_top_files::accept_object;
 use std::alloc::Global;
 

@@ -11,7 +11,7 @@ ghost use Rattle.rt_top_systems.specs.Verdicts.{RefusesSystems};
 use crate::reporting::{DONE, decline, tell};
 use rt_link_verdict::judge;
 use rt_outside::{Sink, Store};
-use rt_report_stacks::stack_table;
+use rt_report::stack_table;
 use rt_top_files::Unaccepted;
 use rt_top_systems::{Modules, accept_modules, not_linked};
 use rt_words::Text;

@@ -1,5 +1,5 @@
 use Rattle.std.proofs.Common.{◌≡◌, ◌∷◌, decimal, map, take}
-use Rattle.rt_report_lines.specs.Lines.{texts_of}
+use Rattle.rt_report.specs.Lines.{texts_of}
 use Rattle.rt_report.specs.Faults.{name_of}
 use Rattle.rt_report.proofs.faults.put_cycle.Given as goal
 

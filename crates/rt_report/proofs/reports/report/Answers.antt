@@ -1,5 +1,5 @@
 use Rattle.std.proofs.Common.{◌++◌, ◌∷◌, List, ℕ, codes, length, ap, ◌∙◌}
-use Rattle.rt_report_lines.specs.Lines.{lines}
+use Rattle.rt_report.specs.Lines.{lines}
 use Rattle.rt_report.specs.Reports.{counted, count_lines, task_lines, tick_lines, end_lines, run_status}
 use Rattle.rt_report.proofs.Rooms.{four_parts}
 use Rattle.rt_report.proofs.reports.report.Goals as goal

@@ -1,5 +1,5 @@
 use Rattle.std.proofs.Common.{◌++◌, ℕ, codes, ap, ◌∙◌}
-use Rattle.rt_report_lines.specs.Lines.{line}
+use Rattle.rt_report.specs.Lines.{line}
 use Rattle.rt_report.specs.Reports.{counted}
 use Rattle.rt_report.proofs.Rooms.{three_parts}
 use Rattle.rt_report.proofs.reports.write_counts.Goals as goal

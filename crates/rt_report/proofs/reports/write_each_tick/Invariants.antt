@@ -1,5 +1,5 @@
 use Rattle.std.proofs.Common.{◌≡◌, ◌++◌, ◌+◌, ◌*◌, ◌≤◌, drop}
-use Rattle.rt_report_lines.specs.Lines.{lines}
+use Rattle.rt_report.specs.Lines.{lines}
 use Rattle.rt_report.specs.Reports.{tick_lines}
 use Rattle.rt_report.proofs.reports.write_each_tick.Given as goal
 

@@ -1,7 +1,7 @@
 use Rattle.std.proofs.Common.{codes, ◌++◌, ◌∷◌, [], List, ℕ, length, ap, ◌∙◌, sym, arith}
 use Rattle.rt_run.specs.declared.machine.End.{End}
 use Rattle.rt_report.specs.Faults.{machine_words}
-use Rattle.rt_report_lines.specs.Lines.{line, lines}
+use Rattle.rt_report.specs.Lines.{line, lines}
 use Rattle.rt_report.specs.Reports.{end_lines}
 use Rattle.rt_report.proofs.Rooms.{machine_room, console_room, name_room, only_line}
 use Rattle.rt_report.proofs.reports.write_end.Goals as goal

@@ -1,5 +1,5 @@
 use Rattle.std.proofs.Common.{◌≡◌, ◌++◌, ◌+◌, ◌≤◌, drop}
-use Rattle.rt_report_lines.specs.Lines.{lines}
+use Rattle.rt_report.specs.Lines.{lines}
 use Rattle.rt_report.specs.Reports.{task_lines, names_room}
 use Rattle.rt_report.proofs.reports.write_tasks.Given as goal
 

@@ -1,8 +1,0 @@
-//! The law of listings, as the contract of a function that does nothing.
-
-ghost use Rattle.rt_listing.specs.Laws.{HasOneListing};
-
-/// An object has one listing.
-pub fn one_listing()
-    ensures { HasOneListing }
-{}

@@ -1,7 +1,0 @@
-use Rattle.std.proofs.Common.{◌≡◌, ◌++◌, drop}
-use Rattle.rt_report_map.specs.Texts.{proc_lines}
-use Rattle.rt_report_map.proofs.text.put_procs.Given as goal
-
--- What is written and what is left are all of it.
-abbrev pub invariant-loop-proc : goal.invariant-loop-proc
-invariant-loop-proc l = l.out.items ++ proc_lines (drop l.proc-index l.procs) ≡ l.initial.out.items ++ proc_lines l.procs

@@ -1,3 +1,0 @@
-mod Noted
-mod SameTables
-mod Told

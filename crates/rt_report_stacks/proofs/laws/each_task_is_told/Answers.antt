@@ -1,5 +1,0 @@
-use Rattle.rt_report_stacks.proofs.Told.{told_of}
-use Rattle.rt_report_stacks.proofs.laws.each_task_is_told.Goals as goal
-
-pub returns : goal.returns
-returns c = told_of

@@ -1,3 +1,0 @@
-pub mod Table
-pub mod Needs
-pub mod Laws
