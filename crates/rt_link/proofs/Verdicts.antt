@@ -16,7 +16,7 @@ use Rattle.rt_graph.specs.Reach.{IsRightCycle}
 use Rattle.rt_graph.specs.Tasks.{AreRoots}
 use Rattle.rt_graph.proofs.Tasked.{root_to}
 use Rattle.rt_graph.proofs.Unique.{one_need}
-use Rattle.rt_link_layout.specs.Room.{room}
+use Rattle.rt_link_image.specs.Room.{room}
 use Rattle.rt_link_verdict.specs.declared.fault.LinkFault.{LinkFault}
 use Rattle.rt_link_verdict.specs.declared.fault.LinkFault.TheVariants as fault
 use Rattle.rt_link_verdict.specs.declared.judged.Judged.{Judged}

@@ -10,8 +10,7 @@ ghost use Rattle.rt_link_verdict.specs.Verdict.{IsJudged, IsFault};
 
 use crate::needs::root_words;
 use rt_image::{Image, Map};
-use rt_link_image::{Linking, entries_are_stacks, image, image_map};
-use rt_link_layout::Layout;
+use rt_link_image::{Layout, Linking, entries_are_stacks, image, image_map};
 use rt_link_verdict::{Judged, LinkFault, each_has_a_stack, judge};
 use rt_object::Object;
 use rt_system::System;

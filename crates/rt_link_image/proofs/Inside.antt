@@ -15,7 +15,7 @@ use Rattle.rt_object.specs.declared.object.Content.TheVariants as content
 use Rattle.rt_object.specs.declared.object.ObjectParts.{ObjectParts}
 use Rattle.rt_object.specs.declared.object.Relocation.{Relocation}
 use Rattle.rt_graph.specs.Calls.{content_of}
-use Rattle.rt_link_layout.proofs.Summed.{all_so}
+use Rattle.rt_link_image.proofs.Summed.{all_so}
 use Rattle.rt_link_image.specs.Relocated.{padded}
 use Rattle.rt_link_image.specs.Imaged.{HasCodeIn, HasDataIn, HasCodeInside, HasDataInside}
 

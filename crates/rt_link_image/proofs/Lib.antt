@@ -1,3 +1,6 @@
+pub mod Summed
+pub mod Looked
+pub mod Followed
 pub mod Routines
 pub mod Inside
 pub mod Long

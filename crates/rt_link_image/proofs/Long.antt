@@ -17,8 +17,8 @@ use Rattle.rt_match.specs.declared.bindings.Bound.{Bound}
 use Rattle.rt_graph.specs.Calls.{content_of}
 use Rattle.rt_templates.specs.Lines as lines
 use Rattle.rt_templates.specs.Supported.{all_lines}
-use Rattle.rt_link_layout.specs.Room as room
-use Rattle.rt_link_layout.specs.Room.{support_bytes, code_bytes, data_bytes, string_bytes, module_code, module_strings, module_data, module_bytes, code_end}
+use Rattle.rt_link_image.specs.Room as room
+use Rattle.rt_link_image.specs.Room.{support_bytes, code_bytes, data_bytes, string_bytes, module_code, module_strings, module_data, module_bytes, code_end}
 use Rattle.rt_link_image.specs.Named.{relocated_word}
 use Rattle.rt_link_image.specs.Relocated.{padded, patched, patched_bytes}
 use Rattle.rt_link_image.specs.Imaged as image

@@ -12,8 +12,8 @@ use Rattle.rt_match.specs.declared.bindings.Bound.{Bound}
 use Rattle.rt_system.specs.declared.parts.Task.{Task}
 use Rattle.rt_graph.specs.Calls.{content_of, content_at}
 use Rattle.rt_graph.specs.Tasks.{IsFirstEntry, IsEntry}
-use Rattle.rt_link_layout.specs.Room.{bricks_in, held, task_bytes, code_end, data_end}
-use Rattle.rt_link_layout.specs.Addresses.{block_at}
+use Rattle.rt_link_image.specs.Room.{bricks_in, held, task_bytes, code_end, data_end}
+use Rattle.rt_link_image.specs.Addresses.{block_at}
 use Rattle.rt_link_image.specs.Imaged.{image_code, image_bytes, image_tasks, AreStackBricks}
 use Rattle.rt_link_image.specs.Laws.{LiesAsLaid}
 use Rattle.rt_link_image.proofs.Long.{code_long, bytes_long}

@@ -29,9 +29,9 @@ use Rattle.rt_system.proofs.Tests.{all_means}
 use Rattle.rt_graph.specs.Calls.{content_of, content_at}
 use Rattle.rt_templates.specs.Lines as lines
 use Rattle.rt_templates.specs.Supported.{all_lines}
-use Rattle.rt_link_layout.specs.Room.{bricks_in, held, stack_in, stack_words, task_bytes, support_bytes, code_end, room}
-use Rattle.rt_link_layout.specs.Addresses.{entry_at}
-use Rattle.rt_link_layout.proofs.Summed.{support_is}
+use Rattle.rt_link_image.specs.Room.{bricks_in, held, stack_in, stack_words, task_bytes, support_bytes, code_end, room}
+use Rattle.rt_link_image.specs.Addresses.{entry_at}
+use Rattle.rt_link_image.proofs.Summed.{support_is}
 use Rattle.rt_link_image.specs.Named.{routine_address}
 use Rattle.rt_link_image.specs.Imaged.{entering, marks_in, brick_marks, module_marks, modules_marks, entries_marks, image_marks, image_code, image_tasks, image_of, start_block, AreStackBricks, HasName}
 use Rattle.rt_link_image.proofs.Long.{code_long, bytes_long, modules_even, marks_long}

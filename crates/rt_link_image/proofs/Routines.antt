@@ -11,7 +11,7 @@ use Rattle.rt_templates.specs.declared.routine.Routine.{Routine}
 use Rattle.rt_templates.specs.Layouts.{routine_number}
 use Rattle.rt_templates.specs.Lines.{words}
 use Rattle.rt_templates.specs.Supported.{begins, routines, numbers}
-use Rattle.rt_link_layout.proofs.Summed.{all_so}
+use Rattle.rt_link_image.proofs.Summed.{all_so}
 use Rattle.rt_link_image.specs.Named.{routine_address}
 
 -- a number that no routine has

@@ -21,8 +21,8 @@ use Rattle.rt_templates.specs.declared.line.Line.{Line}
 use Rattle.rt_templates.specs.Lines as lines
 use Rattle.rt_templates.specs.Lines.{shown}
 use Rattle.rt_templates.specs.Supported.{all_lines}
-use Rattle.rt_link_layout.specs.Addresses.{brick_address, entry_at}
-use Rattle.rt_link_layout.specs.Room.{held, stack_words}
+use Rattle.rt_link_image.specs.Addresses.{brick_address, entry_at}
+use Rattle.rt_link_image.specs.Room.{held, stack_words}
 use Rattle.rt_link_image.specs.Named.{routine_address, relocated_word}
 use Rattle.rt_link_image.specs.Relocated.{padded, patched, patched_bytes}
 

@@ -7,8 +7,8 @@ use Rattle.rt_object.specs.declared.object.ObjectParts.{ObjectParts}
 use Rattle.rt_match.specs.declared.bindings.Bound.{Bound}
 use Rattle.rt_system.specs.declared.parts.Task.{Task}
 use Rattle.rt_graph.specs.Tasks.{IsFirstEntry}
-use Rattle.rt_link_layout.specs.Room.{code_end, data_end}
-use Rattle.rt_link_layout.specs.Addresses.{block_at, stack_at}
+use Rattle.rt_link_image.specs.Room.{code_end, data_end}
+use Rattle.rt_link_image.specs.Addresses.{block_at, stack_at}
 use Rattle.rt_link_image.specs.Imaged.{image_of, AreStackBricks}
 
 -- the parts of an image lie in the machine's memory where the layout has them

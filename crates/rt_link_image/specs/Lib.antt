@@ -1,3 +1,8 @@
+pub mod Room
+pub mod Addresses
+pub mod Rows
+pub mod Tables
+pub mod Parts
 pub mod Named
 pub mod Relocated
 pub mod Imaged

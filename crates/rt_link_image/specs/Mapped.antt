@@ -10,8 +10,8 @@ use Rattle.rt_object.specs.declared.object.Content.TheVariants as content
 use Rattle.rt_object.specs.declared.object.ObjectParts.{ObjectParts}
 use Rattle.rt_system.specs.declared.parts.Task.{Task}
 use Rattle.rt_graph.specs.Calls.{brick, content_of}
-use Rattle.rt_link_layout.specs.Room.{stack_words, code_end, data_end}
-use Rattle.rt_link_layout.specs.Addresses.{block_at, stack_at, brick_address}
+use Rattle.rt_link_image.specs.Room.{stack_words, code_end, data_end}
+use Rattle.rt_link_image.specs.Addresses.{block_at, stack_at, brick_address}
 
 -- the objects of a system, and the stack bricks of its tasks
 module _ (objects : List ObjectParts) (stacks : List Proc) where

@@ -10,7 +10,7 @@ use Rattle.rt_match.specs.declared.bindings.Bound.{Bound}
 use Rattle.rt_match.specs.declared.bindings.Bound.TheVariants as bound
 use Rattle.rt_graph.specs.Calls.{brick, numbered, bound_in}
 use Rattle.rt_templates.specs.Supported.{begins, routines}
-use Rattle.rt_link_layout.specs.Addresses.{brick_address, string_address}
+use Rattle.rt_link_image.specs.Addresses.{brick_address, string_address}
 
 -- where a routine of the support code begins, by its number
 unfoldable pub routine_address : ℕ → ℕ

@@ -7,10 +7,10 @@ ghost use Rattle.rt_templates.specs.Lines as lines;
 ghost use Rattle.rt_link_image.specs.Imaged as spec;
 ghost use Rattle.rt_link_image.specs.Ready.{AreReady};
 
+use crate::held::content_of;
 use crate::linking::Linking;
 use crate::patches::patched;
 use rt_graph::Proc;
-use rt_link_layout::content_of;
 use rt_object::{Brick, Content, Object, ObjectParts};
 use rt_templates::Support;
 use rt_words::{Bytes, List, ListBuilder, Memory, Text};

@@ -6,10 +6,10 @@ ghost use Rattle.rt_object.specs.Ranges.{HasObjectRanges};
 ghost use Rattle.rt_link_image.specs.Imaged as spec;
 ghost use Rattle.rt_link_image.specs.Ready.{AreReady};
 
+use crate::held::content_of;
 use crate::linking::Linking;
 use crate::patches::{padded, patched_bytes};
 use rt_formats::put_word;
-use rt_link_layout::content_of;
 use rt_object::{Brick, Content, ObjectParts};
 use rt_words::{Bytes, Memory, Text};
 use std::alloc::Global;

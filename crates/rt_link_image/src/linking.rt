@@ -1,7 +1,7 @@
 //! What is known of a system when its image is made.
 
+use crate::laid::Layout;
 use rt_graph::Proc;
-use rt_link_layout::Layout;
 use rt_match::Bindings;
 use rt_object::Object;
 use rt_templates::Support;

@@ -6,10 +6,10 @@ ghost use Rattle.rt_object.specs.Ranges.{HasObjectRanges};
 ghost use Rattle.rt_link_image.specs.Mapped as spec;
 ghost use Rattle.rt_link_image.specs.Ready.{AreReady};
 
+use crate::held::{content_of, stack_words};
 use crate::linking::Linking;
 use rt_graph::Proc;
 use rt_image::{Map, MapProc, MapTask};
-use rt_link_layout::{content_of, stack_words};
 use rt_object::{Brick, Content, ObjectParts};
 use rt_system::Task;
 use rt_words::{List, Memory, Name};

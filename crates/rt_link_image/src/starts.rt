@@ -2,16 +2,16 @@
 
 ghost use Rattle.std.specs.Prelude.{◌≡◌, ◌≤◌, ◌<◌, length, slice_index_or, IfOk};
 ghost use Rattle.rt_graph.specs.Calls as calls;
-ghost use Rattle.rt_link_layout.specs.Addresses as addresses;
+ghost use Rattle.rt_link_image.specs.Addresses as addresses;
 ghost use Rattle.rt_templates.specs.Supported.{IsSupport};
 ghost use Rattle.rt_link_image.specs.Imaged as spec;
 ghost use Rattle.rt_link_image.specs.Ready.{AreReady};
 
 use crate::address::routine_address;
+use crate::held::stack_words;
 use crate::linking::Linking;
 use rt_graph::Proc;
 use rt_image::ImageTask;
-use rt_link_layout::stack_words;
 use rt_system::Task;
 use rt_templates::{Routine, Support};
 use rt_words::{List, Memory};

@@ -3,7 +3,7 @@
 ghost use Rattle.std.specs.Prelude.{◌≡◌, ◌≤◌, length, IfOk};
 ghost use Rattle.std.specs.List.{All, AllByRecursion};
 ghost use Rattle.rt_image.specs.Ranges as ranges;
-ghost use Rattle.rt_link_layout.specs.Room.{room};
+ghost use Rattle.rt_link_image.specs.Room.{room};
 ghost use Rattle.rt_object.specs.Ranges.{HasObjectRanges};
 ghost use Rattle.rt_link_image.specs.Imaged as spec;
 ghost use Rattle.rt_link_image.specs.Ready.{AreReady};

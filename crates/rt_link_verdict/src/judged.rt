@@ -1,14 +1,14 @@
 //! The verdict.
 
 ghost use Rattle.std.specs.Prelude.{◌≡◌, ◌<◌, ◌≤◌, length, IfErr, OnOk, IfOk};
-ghost use Rattle.rt_link_layout.specs.Room as layout;
+ghost use Rattle.rt_link_image.specs.Room as layout;
 ghost use Rattle.rt_link_verdict.specs.Verdict.{memory, IsJudged, IsFault};
 ghost use Rattle.rt_link_verdict.specs.declared.fault.LinkFault.TheVariants as fault;
 
 use crate::fault::LinkFault;
 use crate::stacks::stack_bricks;
 use rt_graph::{Order, check_stacks, needs, order, roots};
-use rt_link_layout::{MEMORY, room};
+use rt_link_image::{MEMORY, room};
 use rt_match::{Bindings, match_all};
 use rt_object::Object;
 use rt_system::System;

@@ -1,3 +1,0 @@
-pub mod Summed
-pub mod Looked
-pub mod Followed
