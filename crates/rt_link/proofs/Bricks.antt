@@ -7,9 +7,9 @@ use Rattle.rt_system.specs.declared.parts.Task.{Task}
 use Rattle.rt_digraph.proofs.Lists.{get_there, some_is}
 use Rattle.std.proofs.lemmas.Option.{slice_get_within}
 use Rattle.rt_graph.specs.Tasks.{IsFirstEntry, AreRoots}
-use Rattle.rt_link_verdict.specs.declared.judged.Judged.{Judged}
-use Rattle.rt_link_verdict.specs.Laws.{AreStacks, EachHasAStack}
-use Rattle.rt_link_verdict.specs.Verdict.{IsJudged}
+use Rattle.rt_link.specs.declared.judged.Judged.{Judged}
+use Rattle.rt_link.specs.VerdictLaws.{AreStacks, EachHasAStack}
+use Rattle.rt_link.specs.Verdict.{IsJudged}
 use Rattle.rt_link_image.specs.Imaged.{AreStackBricks}
 use Rattle.rt_link_image.specs.Laws.{EntriesAreStacks}
 

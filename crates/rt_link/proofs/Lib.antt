@@ -1,3 +1,5 @@
+mod Judging
+mod TaskStacks
 mod Bricks
 mod Found
 mod Rooted

@@ -19,9 +19,9 @@ use Rattle.rt_graph.specs.Scans.{told_need}
 use Rattle.rt_graph.specs.Tasks.{IsEntry, IsFirstEntry, IsRootNamed}
 use Rattle.rt_graph.proofs.Stacked.{told_is}
 use Rattle.rt_link_image.specs.Room.{bricks_in, held, stack_in, stack_words, task_bytes}
-use Rattle.rt_link_verdict.specs.declared.judged.Judged.{Judged}
-use Rattle.rt_link_verdict.specs.Laws.{EachHasAStack}
-use Rattle.rt_link_verdict.specs.Verdict.{IsJudged}
+use Rattle.rt_link.specs.declared.judged.Judged.{Judged}
+use Rattle.rt_link.specs.VerdictLaws.{EachHasAStack}
+use Rattle.rt_link.specs.Verdict.{IsJudged}
 use Rattle.rt_link.specs.Linked.{AreRootNeeds}
 use Rattle.rt_link.specs.Needs.{word, root_words}
 use Rattle.rt_link.proofs.Bricks.{fellow, the_roots, the_stacks}

@@ -9,8 +9,8 @@ use Rattle.rt_image.specs.declared.map.Map.{Map}
 use Rattle.rt_image.specs.declared.map.MapTask.{MapTask}
 use Rattle.rt_digraph.proofs.Lists.{no_element, some_is}
 use Rattle.rt_graph.specs.Tasks.{IsStackNamed}
-use Rattle.rt_link_verdict.specs.declared.judged.Judged.{Judged}
-use Rattle.rt_link_verdict.specs.Laws.{AreStacks, EachHasAStack}
+use Rattle.rt_link.specs.declared.judged.Judged.{Judged}
+use Rattle.rt_link.specs.VerdictLaws.{AreStacks, EachHasAStack}
 use Rattle.rt_link_image.specs.Imaged.{image_task, image_tasks}
 use Rattle.rt_link_image.specs.Mapped.{map_task, map_tasks}
 use Rattle.rt_link.specs.Linked.{IsLinked}

@@ -15,10 +15,10 @@ use Rattle.rt_graph.specs.declared.fault.GraphFault.{GraphFault}
 use Rattle.rt_graph.specs.declared.fault.GraphFault.TheVariants as graph
 use Rattle.rt_graph.specs.Needs.{HasNeed}
 use Rattle.rt_graph.specs.Tasks.{IsRootNamed, IsStackNamed}
-use Rattle.rt_link_verdict.specs.declared.fault.LinkFault.{LinkFault}
-use Rattle.rt_link_verdict.specs.declared.fault.LinkFault.TheVariants as fault
-use Rattle.rt_link_verdict.specs.declared.judged.Judged.{Judged}
-use Rattle.rt_link_verdict.specs.Verdict.{IsJudged, IsFault}
+use Rattle.rt_link.specs.declared.fault.LinkFault.{LinkFault}
+use Rattle.rt_link.specs.declared.fault.LinkFault.TheVariants as fault
+use Rattle.rt_link.specs.declared.judged.Judged.{Judged}
+use Rattle.rt_link.specs.Verdict.{IsJudged, IsFault}
 use Rattle.rt_link.specs.Linked.{IsLinked}
 
 -- ---- the tasks

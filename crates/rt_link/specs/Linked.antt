@@ -7,8 +7,8 @@ use Rattle.rt_system.specs.declared.parts.Task.{Task}
 use Rattle.rt_image.specs.declared.image.ImageParts.{ImageParts}
 use Rattle.rt_image.specs.declared.map.Map.{Map}
 use Rattle.rt_graph.specs.Needs.{HasNeed}
-use Rattle.rt_link_verdict.specs.declared.judged.Judged.{Judged}
-use Rattle.rt_link_verdict.specs.Verdict.{IsJudged}
+use Rattle.rt_link.specs.declared.judged.Judged.{Judged}
+use Rattle.rt_link.specs.Verdict.{IsJudged}
 use Rattle.rt_link_image.specs.Imaged.{image_of}
 use Rattle.rt_link_image.specs.Mapped.{map_of}
 

@@ -2,7 +2,7 @@
 
 ghost use Rattle.rt_link.specs.Laws.{TasksAreThoseOfTheLines, EachIsLinked, NeverBoth, HaveOneImage};
 
-use rt_link_verdict::each_has_a_stack;
+use crate::verdict_laws::each_has_a_stack;
 
 /// The tasks of the image of a system and of its map are those of the TASK lines, in their order: they have the names and the
 /// priorities of the lines, the words of the stacks that the lines name, and just the needs of the roots.

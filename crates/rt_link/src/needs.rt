@@ -5,7 +5,7 @@ ghost use Rattle.rt_graph.specs.Numbers.{and_then};
 ghost use Rattle.rt_graph.specs.Scans as scans;
 ghost use Rattle.rt_link.specs.Needs as spec;
 
-use rt_link_verdict::Judged;
+use crate::judged::Judged;
 use rt_tree_nodes::Proc;
 use rt_words::{List, Memory};
 use std::alloc::Global;

@@ -27,8 +27,8 @@ use Rattle.rt_top.specs.Linking.{LinkNames, IsLinkedNow, LinkEnds}
 use Rattle.rt_top.specs.Stacking.{IsTold, StacksEnd}
 use Rattle.rt_graph.specs.declared.fault.GraphFault.{GraphFault}
 use Rattle.rt_graph.specs.declared.fault.GraphFault.TheVariants as graph
-use Rattle.rt_link_verdict.specs.declared.fault.LinkFault.{LinkFault}
-use Rattle.rt_link_verdict.specs.declared.fault.LinkFault.TheVariants as link
+use Rattle.rt_link.specs.declared.fault.LinkFault.{LinkFault}
+use Rattle.rt_link.specs.declared.fault.LinkFault.TheVariants as link
 use Rattle.rt_match.specs.declared.fault.MatchFault.{MatchFault}
 use Rattle.rt_match.specs.declared.fault.MatchFault.TheVariants as matching
 use Rattle.rt_object.specs.declared.object.ObjectParts.{ObjectParts}

@@ -3,8 +3,8 @@ use Rattle.std.specs.Prelude.{◌≡◌, ℕ, List, Option}
 use Rattle.rt_commands.specs.Commands.{IsCommand}
 use Rattle.rt_commands.specs.declared.command.Command.TheVariants as command
 use Rattle.rt_graph.specs.Scans.{told_need}
-use Rattle.rt_link_verdict.specs.declared.judged.Judged.{Judged}
-use Rattle.rt_link_verdict.specs.Verdict.{IsJudged}
+use Rattle.rt_link.specs.declared.judged.Judged.{Judged}
+use Rattle.rt_link.specs.Verdict.{IsJudged}
 use Rattle.rt_object.specs.declared.object.ObjectParts.{ObjectParts}
 use Rattle.rt_outside.specs.Files.{Files}
 use Rattle.rt_report.specs.Stacks.{table_text}

@@ -9,7 +9,7 @@ ghost use Rattle.rt_top_systems.specs.Systems.{IsInTurn};
 ghost use Rattle.rt_top_systems.specs.Verdicts.{RefusesSystems};
 
 use crate::reporting::{DONE, decline, tell};
-use rt_link_verdict::judge;
+use rt_link::judge;
 use rt_outside::{Sink, Store};
 use rt_report::stack_table;
 use rt_top_files::Unaccepted;

@@ -16,9 +16,9 @@ use Rattle.rt_report.specs.declared.fault.ProcName.{ProcName}
 use Rattle.rt_system.specs.declared.parts.Entry.{Entry}
 use Rattle.rt_system.specs.declared.parts.Entry.TheVariants as entry
 use Rattle.rt_system.specs.declared.parts.SystemParts.{SystemParts}
-use Rattle.rt_link_verdict.specs.declared.fault.LinkFault.{LinkFault}
-use Rattle.rt_link_verdict.specs.declared.fault.LinkFault.TheVariants as link
-use Rattle.rt_link_verdict.specs.Verdict.{IsFault}
+use Rattle.rt_link.specs.declared.fault.LinkFault.{LinkFault}
+use Rattle.rt_link.specs.declared.fault.LinkFault.TheVariants as link
+use Rattle.rt_link.specs.Verdict.{IsFault}
 use Rattle.rt_top_systems.specs.Systems.{library_name, HasModules, RefusesModules}
 
 -- ---- files of modules

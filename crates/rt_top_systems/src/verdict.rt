@@ -7,7 +7,7 @@ ghost use Rattle.rt_top_systems.specs.Verdicts as spec;
 use crate::modules::Modules;
 use crate::naming::{file_at, proc_names};
 use rt_graph::GraphFault;
-use rt_link_verdict::LinkFault;
+use rt_link::LinkFault;
 use rt_match::MatchFault;
 use rt_object::Object;
 use rt_report::FaultLine;

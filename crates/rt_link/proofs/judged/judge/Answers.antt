@@ -1,9 +1,9 @@
 use Rattle.std.proofs.Common.{◌≤◌, ◌∙◌, ap, subst}
 use Rattle.std.proofs.lemmas.Result.{err_from_is_err_and}
 use Rattle.rt_link_image.specs.Room.{room}
-use Rattle.rt_link_verdict.specs.Verdict.{memory, stack_bricks}
-use Rattle.rt_link_verdict.proofs.Judging.{ordered, found, small_fault, full_fault, few_lent}
-use Rattle.rt_link_verdict.proofs.judged.judge.Goals as goal
+use Rattle.rt_link.specs.Verdict.{memory, stack_bricks}
+use Rattle.rt_link.proofs.Judging.{ordered, found, small_fault, full_fault, few_lent}
+use Rattle.rt_link.proofs.judged.judge.Goals as goal
 
 pub returns-in_err-check_stacks-clause-fault : goal.returns-in_err-check_stacks-clause-fault
 returns-in_err-check_stacks-clause-fault c =

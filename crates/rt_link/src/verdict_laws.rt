@@ -1,6 +1,6 @@
 //! Laws of the verdict.
 
-ghost use Rattle.rt_link_verdict.specs.Laws.{EachHasAStack};
+ghost use Rattle.rt_link.specs.VerdictLaws.{EachHasAStack};
 
 /// Each task of a system that has roots has its stack brick.
 pub fn each_has_a_stack()

@@ -12,11 +12,11 @@ use Rattle.rt_graph.specs.Needs.{AreNeeds}
 use Rattle.rt_graph.specs.Reach.{IsCallOrder}
 use Rattle.rt_graph.specs.Tasks.{AreRoots, AreFound, IsSmall}
 use Rattle.rt_link_image.specs.Room.{room}
-use Rattle.rt_link_verdict.specs.declared.fault.LinkFault.{LinkFault}
-use Rattle.rt_link_verdict.specs.declared.fault.LinkFault.TheVariants as fault
-use Rattle.rt_link_verdict.specs.Faults.{of_graph}
-use Rattle.rt_link_verdict.specs.Verdict.{memory, stack_bricks, IsOrdered, IsDeep, IsFault}
-use Rattle.rt_link_verdict.proofs.TaskStacks.{few_stacks}
+use Rattle.rt_link.specs.declared.fault.LinkFault.{LinkFault}
+use Rattle.rt_link.specs.declared.fault.LinkFault.TheVariants as fault
+use Rattle.rt_link.specs.Faults.{of_graph}
+use Rattle.rt_link.specs.Verdict.{memory, stack_bricks, IsOrdered, IsDeep, IsFault}
+use Rattle.rt_link.proofs.TaskStacks.{few_stacks}
 
 module _ (objects : List ObjectParts) (tasks : List Task) (of : List (List Bound)) (roots order : List Proc) (needs : List ℕ) where
   pub ordered : (lent : List Proc) → Match (system_of objects) → AreBound (system_of objects) of → AreRoots objects tasks roots → lent ≡ roots → IsCallOrder objects of lent order → AreNeeds objects of order needs → IsOrdered objects tasks of roots order needs

@@ -1,6 +1,6 @@
 use Rattle.std.proofs.Common.{◌≡◌, ◌++◌, drop}
-use Rattle.rt_link_verdict.specs.Verdict.{stack_bricks}
-use Rattle.rt_link_verdict.proofs.stacks.stack_bricks.Given as goal
+use Rattle.rt_link.specs.Verdict.{stack_bricks}
+use Rattle.rt_link.proofs.stacks.stack_bricks.Given as goal
 
 -- What is listed and what is left are all of it.
 abbrev pub invariant-loop-task : goal.invariant-loop-task

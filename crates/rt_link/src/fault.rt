@@ -23,7 +23,7 @@ pub enum LinkFault {
 
 impl From<Memory> for LinkFault {
     ghost use Rattle.std.specs.Prelude.{◌≡◌};
-    ghost use Rattle.rt_link_verdict.specs.declared.fault.LinkFault.TheVariants as fault;
+    ghost use Rattle.rt_link.specs.declared.fault.LinkFault.TheVariants as fault;
 
     ghost from_gives = { λ _ made. made ≡ fault.Memory };
 
@@ -34,7 +34,7 @@ impl From<Memory> for LinkFault {
 
 impl From<MatchFault> for LinkFault {
     ghost use Rattle.std.specs.Prelude.{◌≡◌};
-    ghost use Rattle.rt_link_verdict.specs.Faults.{of_match};
+    ghost use Rattle.rt_link.specs.Faults.{of_match};
 
     ghost from_gives = { λ fault made. made ≡ of_match fault };
 
@@ -48,7 +48,7 @@ impl From<MatchFault> for LinkFault {
 
 impl From<GraphFault> for LinkFault {
     ghost use Rattle.std.specs.Prelude.{◌≡◌};
-    ghost use Rattle.rt_link_verdict.specs.Faults.{of_graph};
+    ghost use Rattle.rt_link.specs.Faults.{of_graph};
 
     ghost from_gives = { λ fault made. made ≡ of_graph fault };
 

@@ -3,8 +3,8 @@ use Rattle.rt_match.specs.declared.fault.MatchFault.{MatchFault}
 use Rattle.rt_match.specs.declared.fault.MatchFault.TheVariants as matching
 use Rattle.rt_graph.specs.declared.fault.GraphFault.{GraphFault}
 use Rattle.rt_graph.specs.declared.fault.GraphFault.TheVariants as graph
-use Rattle.rt_link_verdict.specs.declared.fault.LinkFault.{LinkFault}
-use Rattle.rt_link_verdict.specs.declared.fault.LinkFault.TheVariants as fault
+use Rattle.rt_link.specs.declared.fault.LinkFault.{LinkFault}
+use Rattle.rt_link.specs.declared.fault.LinkFault.TheVariants as fault
 
 abbrev pub of_match : MatchFault → LinkFault
 of_match matching.Memory = fault.Memory

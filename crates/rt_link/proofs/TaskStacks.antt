@@ -8,8 +8,8 @@ use Rattle.rt_digraph.proofs.Lists.{no_element, some_is}
 use Rattle.rt_graph.specs.Nodes.{with_one}
 use Rattle.rt_graph.specs.Tasks.{IsFirstEntry, IsStackNamed, AreRoots}
 use Rattle.rt_graph.proofs.Tasked.{entry_to}
-use Rattle.rt_link_verdict.specs.Laws.{AreStacks}
-use Rattle.rt_link_verdict.specs.Verdict.{stack_in, stack_brick, stack_bricks}
+use Rattle.rt_link.specs.VerdictLaws.{AreStacks}
+use Rattle.rt_link.specs.Verdict.{stack_in, stack_brick, stack_bricks}
 
 module _ (objects : List ObjectParts) where
   brick_is : (name : List ℕ) (f : Proc) (words : ℕ) → IsFirstEntry objects name f (content.Stack words) → stack_brick objects name ≡ Some f

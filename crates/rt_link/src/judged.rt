@@ -2,8 +2,8 @@
 
 ghost use Rattle.std.specs.Prelude.{◌≡◌, ◌<◌, ◌≤◌, length, IfErr, OnOk, IfOk};
 ghost use Rattle.rt_link_image.specs.Room as layout;
-ghost use Rattle.rt_link_verdict.specs.Verdict.{memory, IsJudged, IsFault};
-ghost use Rattle.rt_link_verdict.specs.declared.fault.LinkFault.TheVariants as fault;
+ghost use Rattle.rt_link.specs.Verdict.{memory, IsJudged, IsFault};
+ghost use Rattle.rt_link.specs.declared.fault.LinkFault.TheVariants as fault;
 
 use crate::fault::LinkFault;
 use crate::stacks::stack_bricks;

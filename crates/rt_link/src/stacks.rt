@@ -2,7 +2,7 @@
 
 ghost use Rattle.std.specs.Prelude.{◌≡◌, ◌≤◌, ◌++◌, [], length, IfOk, OnOk};
 ghost use Rattle.rt_graph.specs.Nodes.{with_one};
-ghost use Rattle.rt_link_verdict.specs.Verdict as spec;
+ghost use Rattle.rt_link.specs.Verdict as spec;
 
 use rt_graph::entry_named;
 use rt_object::{Content, Object};

@@ -5,7 +5,7 @@ use Rattle.rt_object.specs.declared.object.Content.TheVariants as content
 use Rattle.rt_object.specs.declared.object.ObjectParts.{ObjectParts}
 use Rattle.rt_system.specs.declared.parts.Task.{Task}
 use Rattle.rt_graph.specs.Tasks.{IsFirstEntry, AreRoots}
-use Rattle.rt_link_verdict.specs.Verdict.{stack_bricks}
+use Rattle.rt_link.specs.Verdict.{stack_bricks}
 
 -- each task has the first stack brick of its name
 pub record AreStacks (objects : List ObjectParts) (tasks : List Task) (stacks : List Proc) : Type 0 where
