@@ -3,7 +3,7 @@ use Rattle.std.proofs.Common.{◌≡◌, ℕ, zero, suc, ◌<◌, ◌≤◌, Lis
 use Rattle.std.proofs.lemmas.Option.{slice_get_within}
 use Rattle.rt_object.specs.Ranges.{Rise}
 use Rattle.rt_tree_nodes.specs.declared.brick.ModuleParts.{ModuleParts}
-use Rattle.rt_compile_taken.specs.Taken.{Has, AreTaken}
+use Rattle.rt_compile.specs.Taken.{Has, AreTaken}
 use Rattle.rt_compile.proofs.Lists.{some_is, cons_is}
 
 tail_rises : (n : ℕ) (ns : List ℕ) → Rise (n ∷ ns) → Rise ns

@@ -38,9 +38,9 @@ use Rattle.rt_lower.specs.Code.{procedure, intermediate}
 use Rattle.rt_templates.specs.declared.code.ProcCode.{ProcCode}
 use Rattle.rt_templates.specs.Expanded as code
 use Rattle.rt_templates.specs.Expanded.{IsTooLong}
-use Rattle.rt_compile_data.specs.declared.written.Data.{Data}
-use Rattle.rt_compile_data.specs.Data.{data_of}
-use Rattle.rt_compile_taken.specs.Taken.{AreTaken}
+use Rattle.rt_compile.specs.declared.data.written.Data.{Data}
+use Rattle.rt_compile.specs.Data.{data_of}
+use Rattle.rt_compile.specs.Taken.{AreTaken}
 
 -- ---- what a procedure and a data brick are in an object
 

@@ -8,7 +8,7 @@ use Rattle.rt_object.specs.declared.object.Brick.{Brick as Compiled}
 use Rattle.rt_object.specs.declared.object.ObjectParts.{ObjectParts}
 use Rattle.rt_layouts.specs.declared.layouts.Layouts.{Layouts}
 use Rattle.rt_templates.specs.declared.code.ProcCode.{ProcCode}
-use Rattle.rt_compile_taken.specs.Taken.{AreTaken}
+use Rattle.rt_compile.specs.Taken.{AreTaken}
 use Rattle.rt_compile.specs.Objects.{brick_by}
 
 abbrev pub head : List ProcCode → Option ProcCode

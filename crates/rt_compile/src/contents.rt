@@ -4,11 +4,12 @@ ghost use Rattle.std.specs.Prelude.{◌≡◌, Some, IfOk, option_map};
 ghost use Rattle.rt_frames.specs.Frames.{frame};
 ghost use Rattle.rt_tree.specs.Within.{Within};
 ghost use Rattle.rt_tree_nodes.specs.Scopes.{scope_of};
-ghost use Rattle.rt_compile_data.specs.Data.{data_of};
+ghost use Rattle.rt_compile.specs.Data.{data_of};
 ghost use Rattle.rt_compile.specs.Objects as object;
 
 use crate::copies::{calls_of, copy_fields};
-use rt_compile_data::{Data, data_of};
+use crate::data::starts::data_of;
+use crate::data::written::Data;
 use rt_frames::{Frame, frame_of};
 use rt_layouts::Layouts;
 use rt_modes::{Field, Mode};

@@ -11,7 +11,7 @@ ghost use Rattle.rt_compile.specs.Texts.{IsCodeFault, IsCodeFaultWith};
 use crate::bricks::compiled;
 use crate::copies::{copy_strings, copy_table};
 use crate::fault::CompileFault;
-use rt_compile_taken::taken;
+use crate::taken::module::taken;
 use rt_layouts::Layouts;
 use rt_lower::lower_by;
 use rt_object::{Brick, ObjectParts};

@@ -1,6 +1,0 @@
-mod Tests
-mod Layers
-mod Places
-mod Counted
-mod Named
-mod Fitting

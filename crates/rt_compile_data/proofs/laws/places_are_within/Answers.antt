@@ -1,5 +1,0 @@
-use Rattle.rt_compile_data.proofs.Places.{data_within}
-use Rattle.rt_compile_data.proofs.laws.places_are_within.Goals as goal
-
-pub returns : goal.returns
-returns c = λ l s fs ss. data_within l s fs ss
