@@ -16,11 +16,11 @@ use Rattle.rt_run.specs.declared.machine.End.TheVariants.{Ended, Limit, Stalled,
 use Rattle.rt_words.specs.Causes.{Rose}
 use Rattle.rt_top.specs.Calls.{Call, before, after, NothingDone, Does, DoesAll, Says, Answers, all_done, one_failed}
 use Rattle.rt_top.specs.Compiling.{Named, IsCompiled, CompileEnds}
-use Rattle.rt_top_files.specs.declared.faulting.Told.{Told}
-use Rattle.rt_top_files.specs.declared.faulting.Told.TheVariants as told
-use Rattle.rt_top_files.specs.Faulting.{items_told, check_told, told_line, line_of}
+use Rattle.rt_top.specs.declared.faulting.Told.{Told}
+use Rattle.rt_top.specs.declared.faulting.Told.TheVariants as told
+use Rattle.rt_top.specs.Faulting.{items_told, check_told, told_line, line_of}
 use Rattle.rt_top.specs.FileEnds.{FileEnds}
-use Rattle.rt_top_files.specs.Reading.{missing, too_long, RefusesImage, RefusesModule, RefusesObject, RefusesSystem, RefusesTicks}
+use Rattle.rt_top.specs.Reading.{missing, too_long, RefusesImage, RefusesModule, RefusesObject, RefusesSystem, RefusesTicks}
 use Rattle.rt_top.specs.Running.{Asked, Refuses, RunEnds, no_memory, refused, unread, carried}
 use Rattle.rt_top.specs.Showing.{IsShown, ShowEnds}
 use Rattle.rt_top.specs.Linking.{LinkNames, IsLinkedNow, LinkEnds}
@@ -34,9 +34,9 @@ use Rattle.rt_match.specs.declared.fault.MatchFault.TheVariants as matching
 use Rattle.rt_object.specs.declared.object.ObjectParts.{ObjectParts}
 use Rattle.rt_system.specs.declared.parts.Entry.{Entry}
 use Rattle.rt_system.specs.declared.parts.Entry.TheVariants as entry
-use Rattle.rt_top_systems.specs.Systems.{library_name, IsInTurn, RefusesEntry, RefusesModules}
-use Rattle.rt_top_systems.specs.Verdicts.{RefusesSystems, file_at, module_in, match_line, graph_line}
-use Rattle.rt_top_systems.specs.Verdicts.{line_of as line_of_verdict}
+use Rattle.rt_top.specs.Systems.{library_name, IsInTurn, RefusesEntry, RefusesModules}
+use Rattle.rt_top.specs.Verdicts.{RefusesSystems, file_at, module_in, match_line, graph_line}
+use Rattle.rt_top.specs.Verdicts.{line_of as line_of_verdict}
 use Rattle.rt_top.specs.Top.{HasReadFault, HasWriteFault}
 use Rattle.rt_top.proofs.Ends.{rose_on}
 

@@ -17,9 +17,9 @@ use Rattle.rt_top.specs.Linking.{LinkNames, IsLinkedNow, LinkEnds}
 use Rattle.rt_top.specs.Running.{Asked, RunEnds, no_memory, refused, unread, carried}
 use Rattle.rt_top.specs.Showing.{IsShown, ShowEnds}
 use Rattle.rt_top.specs.Stacking.{IsTold, StacksEnd}
-use Rattle.rt_top_files.specs.Reading.{RefusesModule, RefusesObject}
-use Rattle.rt_top_systems.specs.Systems.{IsInTurn}
-use Rattle.rt_top_systems.specs.Verdicts.{RefusesSystems}
+use Rattle.rt_top.specs.Reading.{RefusesModule, RefusesObject}
+use Rattle.rt_top.specs.Systems.{IsInTurn}
+use Rattle.rt_top.specs.Verdicts.{RefusesSystems}
 use Rattle.rt_top.proofs.Keeping.{Kept, no_file, by_deeds, by_words, file_kept, only_one}
 
 -- ---- commands that put their fault line

@@ -7,13 +7,13 @@ use Rattle.rt_outside.specs.Files.{Files}
 use Rattle.rt_report.specs.declared.fault.FaultLine.{FaultLine}
 use Rattle.rt_report.specs.declared.fault.FaultLine.TheVariants as fault
 use Rattle.rt_words.specs.Causes.{Rose}
-use Rattle.rt_top_files.specs.declared.reading.Unaccepted.{Unaccepted}
-use Rattle.rt_top_files.specs.declared.reading.Unaccepted.TheVariants.{Memory, Refused, Failed}
+use Rattle.rt_top.specs.declared.reading.Unaccepted.{Unaccepted}
+use Rattle.rt_top.specs.declared.reading.Unaccepted.TheVariants.{Memory, Refused, Failed}
 use Rattle.rt_report.specs.Faults.{status_of, fault_text}
 use Rattle.rt_run.specs.Inputs.{Feed}
 use Rattle.rt_top.specs.Calls.{Call, the_call, outside, Does, DoesAll, Says, Tells}
 use Rattle.rt_top.specs.FileEnds.{Declines, FileEnds}
-use Rattle.rt_top_files.specs.Reading.{IsUnaccepted, IsDeclined}
+use Rattle.rt_top.specs.Reading.{IsUnaccepted, IsDeclined}
 use Rattle.rt_top.specs.Running.{Asked, IsInTurn, IsRefused, IsRefusal, IsCarried, RunEnds, refused, unread}
 use Rattle.rt_top.proofs.Leaves.{keeps_by}
 

@@ -1,3 +1,10 @@
+mod Accepts
+pub mod Declined
+mod Lines
+mod Printed
+mod Places
+mod Whole
+mod LibraryText
 pub mod Leaves
 pub mod Counts
 pub mod Keeping

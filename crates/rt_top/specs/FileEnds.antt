@@ -6,8 +6,8 @@ use Rattle.rt_report.specs.Faults.{status_of, fault_text}
 use Rattle.rt_words.specs.Causes.{Rose}
 use Rattle.rt_deeds.specs.Deeds.{Outside}
 use Rattle.rt_top.specs.Calls.{Call, NothingDone, IsKept, Says, Tells}
-use Rattle.rt_top_files.specs.declared.reading.Unaccepted.{Unaccepted}
-use Rattle.rt_top_files.specs.declared.reading.Unaccepted.TheVariants.{Memory, Refused, Failed}
+use Rattle.rt_top.specs.declared.reading.Unaccepted.{Unaccepted}
+use Rattle.rt_top.specs.declared.reading.Unaccepted.TheVariants.{Memory, Refused, Failed}
 
 -- a fault line is put, or memory was wanted for it
 abbrev pub Complains : FaultLine → Outside → Outside → ℕ → Type 0

@@ -1,3 +1,8 @@
+pub mod Faulting
+pub mod Reading
+pub mod Systems
+pub mod Verdicts
+pub mod Laws
 pub mod Calls
 pub mod Compiling
 pub mod FileEnds

@@ -18,9 +18,9 @@ use Rattle.rt_run.specs.Picture.{Standing, Shows}
 use Rattle.rt_run.specs.Runs.{Runs}
 use Rattle.rt_words.specs.Causes.{Rose}
 use Rattle.rt_top.specs.Calls.{Call, before, after, KeepsInput, NothingDone, Reports}
-use Rattle.rt_top_files.specs.declared.reading.Unaccepted.{Unaccepted}
+use Rattle.rt_top.specs.declared.reading.Unaccepted.{Unaccepted}
 use Rattle.rt_top.specs.declared.running.Ready.{Ready}
-use Rattle.rt_top_files.specs.Reading.{HasImage, RefusesImage, HasTicks, RefusesTicks, IsDeclined}
+use Rattle.rt_top.specs.Reading.{HasImage, RefusesImage, HasTicks, RefusesTicks, IsDeclined}
 
 -- what is asked: the names of the image and of the tick text, the limit, and the name of the report
 pub record Asked : Type 0 where

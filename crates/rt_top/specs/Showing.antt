@@ -6,7 +6,7 @@ use Rattle.rt_report.specs.Listing.{IsListing}
 use Rattle.rt_object.specs.declared.object.ObjectParts.{ObjectParts}
 use Rattle.rt_top.specs.Calls.{Call, Says}
 use Rattle.rt_top.specs.FileEnds.{FileEnds}
-use Rattle.rt_top_files.specs.Reading.{HasObject, RefusesObject}
+use Rattle.rt_top.specs.Reading.{HasObject, RefusesObject}
 
 abbrev pub IsShow : List (List ℕ) → List ℕ → Type 0
 IsShow words name = IsCommand words (command.Show name)

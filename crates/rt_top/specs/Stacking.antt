@@ -11,8 +11,8 @@ use Rattle.rt_report.specs.Stacks.{table_text}
 use Rattle.rt_system.specs.declared.parts.SystemParts.{SystemParts}
 use Rattle.rt_top.specs.Calls.{Call, Says}
 use Rattle.rt_top.specs.FileEnds.{FileEnds}
-use Rattle.rt_top_systems.specs.Systems.{HasModules, IsInTurn}
-use Rattle.rt_top_systems.specs.Verdicts.{RefusesSystems}
+use Rattle.rt_top.specs.Systems.{HasModules, IsInTurn}
+use Rattle.rt_top.specs.Verdicts.{RefusesSystems}
 
 abbrev pub IsStacks : List (List ℕ) → List ℕ → Type 0
 IsStacks words name = IsCommand words (command.Stacks name)

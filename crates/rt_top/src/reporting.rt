@@ -8,10 +8,10 @@ ghost use Rattle.rt_top.specs.Calls.{outside, IsKept, Does, DoesAll, Reports, Te
 ghost use Rattle.rt_top.specs.FileEnds.{Complains, Declines};
 
 use crate::linking::Made;
+use crate::reading::Unaccepted;
 use rt_deeds::{Deed, perform};
 use rt_outside::{Sink, Store, put_all};
 use rt_report::{FaultLine, fault_line, fault_status, refusal_report};
-use rt_top_files::Unaccepted;
 use rt_words::{Bytes, Text};
 use std::alloc::Global;
 

@@ -7,9 +7,10 @@ ghost use Rattle.rt_run.specs.Boundaries.{start};
 ghost use Rattle.rt_run.specs.Inputs.{feed};
 ghost use Rattle.rt_run.specs.Picture.{Shows};
 ghost use Rattle.rt_top.specs.Calls.{the_call};
-ghost use Rattle.rt_top_files.specs.Reading.{HasImage, HasTicks};
+ghost use Rattle.rt_top.specs.Reading.{HasImage, HasTicks};
 ghost use Rattle.rt_top.specs.Running.{asked, names_of, IsRefused, IsReady, Begins, IsCarried, RunEnds};
 
+use crate::reading::{Unaccepted, accept_image, accept_ticks};
 use crate::reporting::{NO_MEMORY, refuse, write_report};
 use rt_commands::TimedWords;
 use rt_image::{Image, ImageTask};
@@ -17,7 +18,6 @@ use rt_outside::{Sink, Source, Store};
 use rt_report::{report, report_room};
 use rt_run::{Run, boundaries_are_counted};
 use rt_system::Ticks;
-use rt_top_files::{Unaccepted, accept_image, accept_ticks};
 use rt_words::{List, Memory, Name, Text};
 use std::alloc::Global;
 

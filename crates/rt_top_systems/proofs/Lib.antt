@@ -1,6 +1,0 @@
-pub mod Declined
-mod Lines
-mod Printed
-mod Places
-mod Whole
-mod LibraryText
