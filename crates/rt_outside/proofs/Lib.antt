@@ -1,3 +1,6 @@
 pub mod Appended
 pub mod Kept
 pub mod Puts
+pub mod Stretches
+pub mod Changes
+pub mod Taken

@@ -5,3 +5,5 @@ pub mod Held
 pub mod Places
 pub mod States
 pub mod Streams
+pub mod Deeds
+pub mod Laws

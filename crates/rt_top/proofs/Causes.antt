@@ -3,9 +3,9 @@ use Rattle.std.proofs.Common.{◌≡◌, inl, inr, ℕ, ◌≤◌, Bool, true, f
 use Rattle.std.specs.Prelude.{codes, option_map}
 use Rattle.rt_compile.specs.declared.fault.CompileFault.{CompileFault}
 use Rattle.rt_compile.specs.declared.fault.CompileFault.TheVariants as compile
-use Rattle.rt_deeds.specs.Deeds.{Deed, Writes, Puts, Outside, IsLater, HasFailed, Performed}
-use Rattle.rt_deeds.proofs.Changes.{later, two_later}
-use Rattle.rt_deeds.proofs.Stretches.{stopped}
+use Rattle.rt_outside.specs.Deeds.{Deed, Writes, Puts, Outside, IsLater, HasFailed, Performed}
+use Rattle.rt_outside.proofs.Changes.{later, two_later}
+use Rattle.rt_outside.proofs.Stretches.{stopped}
 use Rattle.rt_report.specs.declared.fault.FaultLine.{FaultLine}
 use Rattle.rt_report.specs.declared.fault.FaultLine.TheVariants as fault
 use Rattle.rt_report.specs.Faults.{status_of, fault_text}

@@ -1,7 +1,7 @@
 -- Which files the commands leave as they were.
 use Rattle.std.proofs.Common.{◌≡◌, ◌⊎◌, inl, inr, ℕ, List, [], ◌∷◌, Option, Some, None, refl}
-use Rattle.rt_deeds.specs.Deeds.{Writes}
-use Rattle.rt_deeds.specs.Laws.{Both}
+use Rattle.rt_outside.specs.Deeds.{Writes}
+use Rattle.rt_outside.specs.Laws.{Both}
 use Rattle.rt_first_go.specs.declared.image.Image.{Image}
 use Rattle.rt_first_go.specs.declared.refusal.Refusal.{Refusal}
 use Rattle.rt_first_go.specs.declared.refusal.Refusal.TheVariants.{NoFile}

@@ -1,7 +1,7 @@
 -- How commands end, from the moments of their steps.
 use Rattle.std.proofs.Common.{◌≡◌, ◌⊎◌, inl, inr, ℕ, ◌≤◌, List, [], ◌∷◌, Option, refl, sym, subst, ◌∙◌, arith}
-use Rattle.rt_deeds.specs.Deeds.{Deed, Puts, Outside}
-use Rattle.rt_deeds.proofs.Changes.{earlier}
+use Rattle.rt_outside.specs.Deeds.{Deed, Puts, Outside}
+use Rattle.rt_outside.proofs.Changes.{earlier}
 use Rattle.rt_image.specs.declared.image.ImageParts.{ImageParts}
 use Rattle.rt_outside.specs.Files.{Files}
 use Rattle.rt_report.specs.declared.fault.FaultLine.{FaultLine}

@@ -1,8 +1,8 @@
 -- Files of other names than those that are written stay as they were.
 use Rattle.std.proofs.Common.{◌≡◌, ℕ, Bool, List, [], ◌∷◌, Option, Some, None, refl, sym, subst}
-use Rattle.rt_deeds.specs.Deeds.{Deed, Puts, Outside, Performed}
-use Rattle.rt_deeds.specs.Laws.{Both, Among, names_in}
-use Rattle.rt_deeds.proofs.Changes.{kept}
+use Rattle.rt_outside.specs.Deeds.{Deed, Puts, Outside, Performed}
+use Rattle.rt_outside.specs.Laws.{Both, Among, names_in}
+use Rattle.rt_outside.proofs.Changes.{kept}
 use Rattle.rt_outside.specs.Files.{Files, ChangesOnly}
 use Rattle.rt_report.specs.declared.fault.FaultLine.{FaultLine}
 use Rattle.rt_top.specs.Calls.{Call, before, after, KeepsOthers, Says}

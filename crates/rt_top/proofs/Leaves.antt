@@ -1,7 +1,7 @@
 -- What a command leaves.
 use Rattle.std.proofs.Common.{◌≡◌, ℕ, ◌≤◌, true, false, List, Option, Some, None, refl, sym, subst, arith}
 use Rattle.std.specs.Io.KnownBytes.{Keeps}
-use Rattle.rt_deeds.specs.Deeds.{Deed, Outside, IsLater, Performed}
+use Rattle.rt_outside.specs.Deeds.{Deed, Outside, IsLater, Performed}
 use Rattle.rt_outside.specs.Files.{Files}
 use Rattle.rt_top.specs.Calls.{outside, DoesAll, all_done, one_failed, Reports}
 

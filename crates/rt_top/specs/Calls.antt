@@ -1,8 +1,8 @@
 -- What the outside held and counted before a call and after it.
 use Rattle.std.specs.Io.KnownBytes.{Keeps}
 use Rattle.std.specs.Prelude.{◌≡◌, ℕ, Bool, true, false, List, [], ◌∷◌, Option}
-use Rattle.rt_deeds.specs.Deeds.{Deed, Writes, Puts, Outside, Performed}
-use Rattle.rt_deeds.specs.Laws.{Both, Among}
+use Rattle.rt_outside.specs.Deeds.{Deed, Writes, Puts, Outside, Performed}
+use Rattle.rt_outside.specs.Laws.{Both, Among}
 use Rattle.rt_first_go.specs.Ends as go
 use Rattle.rt_outside.specs.Files.{Files}
 use Rattle.rt_run.specs.Inputs.{Feed}

@@ -2,7 +2,7 @@
 use Rattle.std.specs.Prelude.{◌≡◌, ℕ, List}
 use Rattle.rt_commands.specs.Commands.{IsCommand}
 use Rattle.rt_commands.specs.declared.command.Command.TheVariants as command
-use Rattle.rt_deeds.specs.Deeds.{Writes}
+use Rattle.rt_outside.specs.Deeds.{Writes}
 use Rattle.rt_object.specs.Grammar.{IsObject}
 use Rattle.rt_object.specs.declared.object.ObjectParts.{ObjectParts}
 use Rattle.rt_top.specs.Calls.{Call, before, after, KeepsInput, Does}

@@ -4,7 +4,7 @@ use Rattle.rt_report.specs.declared.fault.FaultLine.{FaultLine}
 use Rattle.rt_report.specs.declared.fault.FaultLine.TheVariants as fault
 use Rattle.rt_report.specs.Faults.{status_of, fault_text}
 use Rattle.rt_words.specs.Causes.{Rose}
-use Rattle.rt_deeds.specs.Deeds.{Outside}
+use Rattle.rt_outside.specs.Deeds.{Outside}
 use Rattle.rt_top.specs.Calls.{Call, NothingDone, IsKept, Says, Tells}
 use Rattle.rt_top.specs.declared.reading.Unaccepted.{Unaccepted}
 use Rattle.rt_top.specs.declared.reading.Unaccepted.TheVariants.{Memory, Refused, Failed}

@@ -2,7 +2,7 @@
 use Rattle.std.specs.Prelude.{◌≡◌, ℕ, List, [], ◌∷◌, Option}
 use Rattle.rt_commands.specs.Commands.{IsCommand}
 use Rattle.rt_commands.specs.declared.command.Command.TheVariants as command
-use Rattle.rt_deeds.specs.Deeds.{Writes}
+use Rattle.rt_outside.specs.Deeds.{Writes}
 use Rattle.rt_image.specs.declared.image.ImageParts.{ImageParts}
 use Rattle.rt_image.specs.declared.map.Map.{Map}
 use Rattle.rt_image.specs.Grammar.{IsImage}

@@ -3,7 +3,7 @@ use Rattle.std.specs.Prelude.{◌≡◌, ◌⊎◌, ℕ, ◌≤◌, List, [], le
 use Rattle.rt_commands.specs.Commands.{IsCommand}
 use Rattle.rt_commands.specs.declared.command.Command.TheVariants as command
 use Rattle.rt_commands.specs.declared.lent.TimedWords.{TimedWords}
-use Rattle.rt_deeds.specs.Deeds.{Outside, IsLater}
+use Rattle.rt_outside.specs.Deeds.{Outside, IsLater}
 use Rattle.rt_image.specs.declared.image.ImageParts.{ImageParts}
 use Rattle.rt_image.specs.declared.image.ImageTask.{ImageTask}
 use Rattle.rt_outside.specs.Files.{Files}

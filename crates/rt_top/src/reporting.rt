@@ -3,14 +3,13 @@
 ghost use Rattle.std.specs.Prelude.{◌≡◌, ◌≤◌, ◌⊎◌, ℕ, List, [], ◌∷◌, Option};
 ghost use Rattle.rt_outside.specs.Files.{Files};
 ghost use Rattle.rt_report.specs.Faults.{status_of, refusal_text};
-ghost use Rattle.rt_deeds.specs.Deeds.{Writes};
+ghost use Rattle.rt_outside.specs.Deeds.{Writes};
 ghost use Rattle.rt_top.specs.Calls.{outside, IsKept, Does, DoesAll, Reports, Tells};
 ghost use Rattle.rt_top.specs.FileEnds.{Complains, Declines};
 
 use crate::linking::Made;
 use crate::reading::Unaccepted;
-use rt_deeds::{Deed, perform};
-use rt_outside::{Sink, Store, put_all};
+use rt_outside::{Deed, Sink, Store, perform, put_all};
 use rt_report::{FaultLine, fault_line, fault_status, refusal_report};
 use rt_words::{Bytes, Text};
 use std::alloc::Global;

@@ -1,5 +1,5 @@
 use Rattle.std.proofs.Common.{[], ◌∷◌, refl}
-use Rattle.rt_deeds.specs.Deeds.{Writes}
+use Rattle.rt_outside.specs.Deeds.{Writes}
 use Rattle.rt_top.specs.Calls.{outside}
 use Rattle.rt_top.specs.FileEnds.{FileEnds}
 use Rattle.rt_top.proofs.Ends.{all_from, declined}

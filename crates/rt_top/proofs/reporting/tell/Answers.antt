@@ -1,5 +1,5 @@
 use Rattle.std.proofs.Common.{[], ◌∷◌, refl, rules}
-use Rattle.rt_deeds.specs.Deeds.{Puts, done, failed, nothing}
+use Rattle.rt_outside.specs.Deeds.{Puts, done, failed, nothing}
 use Rattle.rt_top.proofs.Leaves.{all_well, not_well, put_later}
 use Rattle.rt_top.proofs.reporting.tell.Goals as goal
 

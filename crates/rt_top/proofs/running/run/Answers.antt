@@ -1,5 +1,5 @@
 use Rattle.std.proofs.Common.{refl, ◌∙◌}
-use Rattle.rt_deeds.specs.Deeds.{Writes}
+use Rattle.rt_outside.specs.Deeds.{Writes}
 use Rattle.rt_report.specs.Faults.{refusal_text, status_of}
 use Rattle.rt_top.specs.Calls.{outside, IsKept, Reports}
 use Rattle.rt_top.specs.Running.{asked, carried, no_memory}

@@ -1,5 +1,5 @@
 use Rattle.std.proofs.Common.{refl, subst}
-use Rattle.rt_deeds.specs.Deeds.{Puts}
+use Rattle.rt_outside.specs.Deeds.{Puts}
 use Rattle.rt_top.specs.Calls.{outside, Tells}
 use Rattle.rt_top.specs.FileEnds.{FileEnds}
 use Rattle.rt_top.specs.Reading.{RefusesObject}

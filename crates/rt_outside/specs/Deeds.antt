@@ -4,8 +4,8 @@ use Rattle.std.specs.Io.KnownBytes.{Appends}
 use Rattle.rt_words.specs.Causes.{Rose}
 use Rattle.rt_outside.specs.Appending.{AppendsStart}
 use Rattle.rt_outside.specs.Files.{Files, WhereTold, Has, ChangesOnly}
-use Rattle.rt_deeds.specs.declared.deed.Deed.{Deed as DeedNode}
-use Rattle.rt_deeds.specs.declared.deed.Deed.TheVariants as node
+use Rattle.rt_outside.specs.declared.deed.Deed.{Deed as DeedNode}
+use Rattle.rt_outside.specs.declared.deed.Deed.TheVariants as node
 
 pub data Deed : Type 0 where
   Writes : (name bytes : List ℕ) → Deed  -- the file of this name gets just these bytes

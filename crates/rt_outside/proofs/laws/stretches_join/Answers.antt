@@ -1,6 +1,6 @@
-use Rattle.rt_deeds.proofs.Changes.{earlier}
-use Rattle.rt_deeds.proofs.Stretches.{joined}
-use Rattle.rt_deeds.proofs.laws.stretches_join.Goals as goal
+use Rattle.rt_outside.proofs.Changes.{earlier}
+use Rattle.rt_outside.proofs.Stretches.{joined}
+use Rattle.rt_outside.proofs.laws.stretches_join.Goals as goal
 
 pub returns-clause-join : goal.returns-clause-join
 returns-clause-join c = joined

@@ -1,5 +1,5 @@
-use Rattle.rt_deeds.proofs.Changes.{all_applied, kept}
-use Rattle.rt_deeds.proofs.laws.files_change_by_writes.Goals as goal
+use Rattle.rt_outside.proofs.Changes.{all_applied, kept}
+use Rattle.rt_outside.proofs.laws.files_change_by_writes.Goals as goal
 
 pub returns-clause-applied : goal.returns-clause-applied
 returns-clause-applied c = all_applied

@@ -2,7 +2,7 @@
 use Rattle.std.specs.Prelude.{◌≡◌, ◌⊎◌, ℕ, Bool, true, false, if◌then◌else◌, List, [], ◌∷◌, ◌++◌, Option, Some, None}
 use Rattle.std.specs.Str.{bytes_eq}
 use Rattle.rt_outside.specs.Files.{Files}
-use Rattle.rt_deeds.specs.Deeds.{Deed, Writes, Puts, Outside, IsLater, HasFailed, Performed}
+use Rattle.rt_outside.specs.Deeds.{Deed, Writes, Puts, Outside, IsLater, HasFailed, Performed}
 
 -- files with one more of a name
 abbrev pub with_file : List ℕ → List ℕ → Files → Files

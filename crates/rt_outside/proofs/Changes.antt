@@ -6,8 +6,8 @@ use Rattle.std.specs.Io.KnownBytes.{Appends}
 use Rattle.rt_words.specs.Causes.{Rose}
 use Rattle.rt_outside.specs.Appending.{AppendsStart}
 use Rattle.rt_outside.specs.Files.{Files, WhereTold, Has, ChangesOnly}
-use Rattle.rt_deeds.specs.Deeds.{Deed, Writes, Puts, Outside, IsLater, IsDone, HasFailed, Performed, nothing, done, failed}
-use Rattle.rt_deeds.specs.Laws.{Both, Among, with_file, applied, names_in, IsEarlier}
+use Rattle.rt_outside.specs.Deeds.{Deed, Writes, Puts, Outside, IsLater, IsDone, HasFailed, Performed, nothing, done, failed}
+use Rattle.rt_outside.specs.Laws.{Both, Among, with_file, applied, names_in, IsEarlier}
 
 -- ---- counts
 

@@ -1,7 +1,7 @@
 -- Stretches of deeds, one behind the other.
 use Rattle.std.proofs.Common.{◌≡◌, Bool, true, false, List, [], ◌∷◌, ◌++◌, refl, sym, ap, subst}
-use Rattle.rt_deeds.specs.Deeds.{Deed, Outside, IsDone, HasFailed, Performed, nothing, done, failed}
-use Rattle.rt_deeds.specs.Laws.{Stopped}
+use Rattle.rt_outside.specs.Deeds.{Deed, Outside, IsDone, HasFailed, Performed, nothing, done, failed}
+use Rattle.rt_outside.specs.Laws.{Stopped}
 
 pub joined : (ds es : List Deed) (a b c : Outside) (all : Bool) → Performed ds a b true → Performed es b c all → Performed (ds ++ es) a c all
 joined ds es a b c all nothing k = k

@@ -1,6 +1,6 @@
 use Rattle.std.proofs.Common.{true, ℕ, ◌≤◌, List, take}
-use Rattle.rt_deeds.specs.Deeds.{deeds_of, Performed}
-use Rattle.rt_deeds.proofs.performing.perform.Given as goal
+use Rattle.rt_outside.specs.Deeds.{deeds_of, Performed}
+use Rattle.rt_outside.proofs.performing.perform.Given as goal
 
 abbrev pub invariant-loop-deed : goal.invariant-loop-deed
 invariant-loop-deed g l =

@@ -1,11 +1,13 @@
 //! Doing deeds.
 
 ghost use Rattle.std.specs.Prelude.{◌≡◌, ◌≤◌, ℕ, List, is_ok};
-ghost use Rattle.rt_deeds.specs.Deeds.{deed_of, deeds_of, IsDone, HasFailed, Performed};
+ghost use Rattle.rt_outside.specs.Deeds.{deed_of, deeds_of, IsDone, HasFailed, Performed};
 ghost use Rattle.std.specs.Prelude.{OnOk, OnErr};
 
 use crate::deed::Deed;
-use rt_outside::{Failed, Sink, Store, put_all};
+use crate::put::put_all;
+use crate::sink::{Failed, Sink};
+use crate::store::Store;
 
 fn perform_one<S: Store, O: Sink>(
     store: &mut S,

@@ -1,8 +1,8 @@
 use Rattle.std.proofs.Common.{◌+◌, take, drop, arith}
-use Rattle.rt_deeds.specs.Deeds.{deed_of, deeds_of, nothing}
-use Rattle.rt_deeds.proofs.Stretches.{one_more, one_failed}
-use Rattle.rt_deeds.proofs.Taken.{one_taken, one_left}
-use Rattle.rt_deeds.proofs.performing.perform.Goals as goal
+use Rattle.rt_outside.specs.Deeds.{deed_of, deeds_of, nothing}
+use Rattle.rt_outside.proofs.Stretches.{one_more, one_failed}
+use Rattle.rt_outside.proofs.Taken.{one_taken, one_left}
+use Rattle.rt_outside.proofs.performing.perform.Goals as goal
 
 pub loop-deed-init : goal.loop-deed-init
 loop-deed-init g c = (λ name. omega arith, nothing)

@@ -1,6 +1,6 @@
 //! The laws, as the contracts of functions that do nothing.
 
-ghost use Rattle.rt_deeds.specs.Laws.{FilesAreApplied, OthersAreKept, NothingFollows, CountsNeverFall, StretchesJoin, BeginsEarlier};
+ghost use Rattle.rt_outside.specs.Laws.{FilesAreApplied, OthersAreKept, NothingFollows, CountsNeverFall, StretchesJoin, BeginsEarlier};
 
 /// Where all deeds were done, the files are those before with the writes applied in their order; and whether they were or not,
 /// files of other names stay as they were.

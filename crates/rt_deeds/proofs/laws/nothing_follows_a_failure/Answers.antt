@@ -1,5 +1,0 @@
-use Rattle.rt_deeds.proofs.Stretches.{stopped}
-use Rattle.rt_deeds.proofs.laws.nothing_follows_a_failure.Goals as goal
-
-pub returns : goal.returns
-returns c = stopped
