@@ -11,8 +11,8 @@ use Rattle.rt_resolve.specs.World.{World}
 use Rattle.rt_meaning.specs.Run.{State, Served, Stepped, serve, moved, moved_by, stepped_by, one_step, step_by, task_in, task_at}
 use Rattle.rt_meaning.specs.Step.{Task, request, task_step}
 use Rattle.rt_meaning_laws.specs.Makes.{HasntEnded, Makes}
-use Rattle.rt_runs.specs.Runs.{Reached, bytes_of, reached_by, then_step, after, are_placements}
-use Rattle.rt_runs.proofs.Longer.{one_more_step}
+use Rattle.rt_meaning.specs.Runs.{Reached, bytes_of, reached_by, then_step, after, are_placements}
+use Rattle.rt_meaning.proofs.Longer.{one_more_step}
 use Rattle.rt_faithful.proofs.Placed.{placed_more}
 
 -- ---- lists

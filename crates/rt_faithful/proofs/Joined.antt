@@ -12,7 +12,7 @@ use Rattle.rt_meaning.specs.declared.begin.SourceTask.{SourceTask}
 use Rattle.rt_meaning.specs.Run.{task_at}
 use Rattle.rt_meaning.specs.Whole.{beginning}
 use Rattle.rt_meaning_laws.specs.SourceRuns.{SystemRunsFit}
-use Rattle.rt_runs.specs.Runs as source
+use Rattle.rt_meaning.specs.Runs as source
 use Rattle.rt_follows.specs.Whole.{Whole, meaning, Lies}
 use Rattle.rt_follows.specs.Follows.{Follows}
 use Rattle.rt_follows.specs.Laws.{TasksFollow}

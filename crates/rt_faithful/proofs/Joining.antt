@@ -38,8 +38,8 @@ use Rattle.rt_meaning_laws.specs.Makes.{HasntEnded, Makes}
 use Rattle.rt_meaning_laws.specs.Runs.{AllFit, NoneLacks, StateFits}
 use Rattle.rt_meaning_laws.specs.SourceRuns.{AreBytes}
 use Rattle.rt_meaning_laws.specs.Tasks.{TaskFits}
-use Rattle.rt_runs.specs.Runs as runs
-use Rattle.rt_runs.specs.Runs.{bytes_of, then_ticks}
+use Rattle.rt_meaning.specs.Runs as runs
+use Rattle.rt_meaning.specs.Runs.{bytes_of, then_ticks}
 use Rattle.rt_follows.specs.Whole.{Whole, Home, meaning}
 use Rattle.rt_follows.specs.Held.{layout, memory}
 use Rattle.rt_follows.specs.Follows.{IsFine, asked_by, answered, quiet_after, OwnIs, Stays, Agreed, Follows}
@@ -47,7 +47,7 @@ use Rattle.rt_faithful.specs.Faithful.{home_of, quiet}
 use Rattle.rt_faithful.specs.Imaged.{Imaged}
 use Rattle.rt_faithful.specs.Services.{SameService}
 use Rattle.rt_faithful.proofs.Joined.{Joined, Given}
-use Rattle.rt_runs.proofs.Longer.{one_more_tick}
+use Rattle.rt_meaning.proofs.Longer.{one_more_tick}
 use Rattle.rt_meaning_laws.proofs.SourceRuns.{byte_comes}
 use Rattle.rt_faithful.proofs.Placed.{placed_more, rise_last}
 use Rattle.rt_faithful.proofs.Came.{get_set, found_by, Came, comes}

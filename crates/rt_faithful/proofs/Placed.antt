@@ -1,8 +1,8 @@
 -- Placements in a run are placements in a longer one.
 use Rattle.std.proofs.Common.{◌≡◌, ℕ, ◌≤◌, Bool, true, false, ◌&&◌, nat_le, List, [], ◌∷◌, ◌++◌, refl, arith, leb-true}
 use Rattle.std.proofs.lemmas.Bool.{le-leb}
-use Rattle.rt_runs.specs.Runs.{rise_from, are_placements}
-use Rattle.rt_runs.proofs.Longer.{both_true}
+use Rattle.rt_meaning.specs.Runs.{rise_from, are_placements}
+use Rattle.rt_meaning.proofs.Longer.{both_true}
 
 and_true : (a b : Bool) → a ≡ true → b ≡ true → a && b ≡ true
 and_true true b e f = f

@@ -14,7 +14,7 @@ use Rattle.rt_run.specs.Services as machine
 use Rattle.rt_work_state.specs.declared.request.Request.{Request}
 use Rattle.rt_work_state.specs.declared.request.Request.TheVariants.{Nothing, Takes, Puts, Rules}
 use Rattle.rt_meaning.specs.Run as source
-use Rattle.rt_runs.specs.Runs.{bytes_of}
+use Rattle.rt_meaning.specs.Runs.{bytes_of}
 use Rattle.rt_follows.specs.Follows.{asked_by, answer_of}
 use Rattle.rt_faithful.specs.Laws.{ServicesAreOfTheSource}
 use Rattle.rt_faithful.specs.Services.{SameService}

@@ -13,8 +13,8 @@ use Rattle.rt_meaning.specs.declared.begin.SourceTask.{SourceTask}
 use Rattle.rt_meaning.specs.Run.{task_at}
 use Rattle.rt_meaning_laws.specs.Ends.{EndAsRows}
 use Rattle.rt_meaning_laws.specs.SourceRuns.{AreBytes}
-use Rattle.rt_runs.specs.Runs.{system_run}
-use Rattle.rt_runs.specs.Runs as source
+use Rattle.rt_meaning.specs.Runs.{system_run}
+use Rattle.rt_meaning.specs.Runs as source
 use Rattle.rt_follows.specs.Whole.{Whole, Home, Lies, Lays}
 use Rattle.rt_follows.specs.Follows.{quiet_after, OwnIs}
 

@@ -4,7 +4,7 @@ use Rattle.pdp_core.specs.declared.cpu.Regs.{Regs}
 use Rattle.pdp_core.specs.declared.cpu.Stop.{Stop}
 use Rattle.rt_run.specs.Services as machine
 use Rattle.rt_meaning.specs.Run as source
-use Rattle.rt_runs.specs.Runs.{bytes_of}
+use Rattle.rt_meaning.specs.Runs.{bytes_of}
 use Rattle.rt_follows.specs.Follows.{answered}
 
 -- what a service of the machine's run left is what one of the source's left: the rules, the bytes taken, those put, and the registers that

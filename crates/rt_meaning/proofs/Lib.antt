@@ -5,3 +5,6 @@ mod Others
 mod Steps
 mod Tasks
 mod Touching
+pub mod Longer
+mod Placements
+mod Rising

@@ -7,3 +7,5 @@ pub mod Roots
 pub mod Laws
 pub mod Whole
 pub mod Answers
+pub mod Code
+pub mod Runs

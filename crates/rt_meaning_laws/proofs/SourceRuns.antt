@@ -7,8 +7,8 @@ use Rattle.rt_resolve.specs.Systems.{world}
 use Rattle.rt_meaning.specs.Roots.{roots}
 use Rattle.rt_meaning.specs.Run.{State, Stepped, one_step}
 use Rattle.rt_meaning.specs.Whole.{beginning}
-use Rattle.rt_runs.specs.Runs.{Reached, reached_by, then_step, ticks, then_ticks, ticks_after, are_placements}
-use Rattle.rt_runs.specs.Runs as runs
+use Rattle.rt_meaning.specs.Runs.{Reached, reached_by, then_step, ticks, then_ticks, ticks_after, are_placements}
+use Rattle.rt_meaning.specs.Runs as runs
 use Rattle.rt_meaning_laws.specs.Ends.{Agree}
 use Rattle.rt_meaning_laws.specs.Runs.{StateFits, NoneLacks, IsInput, Happening, a_tick, a_step, state_after, happens, after, MayHappen}
 use Rattle.rt_meaning_laws.specs.SourceRuns.{AreBytes, SourceRunsKeep, SystemRunsFit}

@@ -7,7 +7,7 @@ use Rattle.rt_resolve.specs.World.{World}
 use Rattle.rt_meaning.specs.declared.begin.SourceTask.{SourceTask}
 use Rattle.rt_meaning.specs.Roots.{roots}
 use Rattle.rt_meaning.specs.Run.{State}
-use Rattle.rt_runs.specs.Runs.{Reached, source_run, system_run}
+use Rattle.rt_meaning.specs.Runs.{Reached, source_run, system_run}
 use Rattle.rt_meaning_laws.specs.Ends.{Agree}
 use Rattle.rt_meaning_laws.specs.Modules.{ModulesFit}
 use Rattle.rt_meaning_laws.specs.Runs.{StateFits, NoneLacks}

@@ -8,7 +8,7 @@ use Rattle.rt_resolve.specs.Systems.{world}
 use Rattle.rt_meaning.specs.declared.begin.SourceTask.{SourceTask}
 use Rattle.rt_meaning.specs.Roots.{roots}
 use Rattle.rt_meaning.specs.Whole.{beginning}
-use Rattle.rt_runs.specs.Runs.{Reached, system_run}
+use Rattle.rt_meaning.specs.Runs.{Reached, system_run}
 use Rattle.rt_meaning_laws.specs.Ends.{Agree}
 use Rattle.rt_meaning_laws.specs.Modules.{ModulesFit}
 use Rattle.rt_meaning_laws.specs.Runs.{StateFits, NoneLacks, Happening, after, MayHappen}

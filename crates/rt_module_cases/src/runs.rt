@@ -5,9 +5,8 @@ ghost use Rattle.rt_meaning.specs.Source as source;
 
 use crate::systems::{System, may_start, system_of, system_with};
 use rt_case_texts::{Case, Stop, number, write_bytes};
-use rt_meaning::SourceState;
+use rt_meaning::{Reached, SourceState, run_system, source_run};
 use rt_rules::State;
-use rt_runs::{Reached, run_system, source_run};
 use rt_tree::{Step, TypedModule};
 use rt_words::List;
 use std::alloc::Global;

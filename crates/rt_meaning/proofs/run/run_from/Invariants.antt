@@ -1,9 +1,9 @@
 use Rattle.std.proofs.Common.{◌≡◌, ◌+◌, ◌*◌, ◌≤◌, ◌<◌, ℕ, drop, length, true, Some}
-use Rattle.rt_runs.specs.Runs.{after, rise_from, ticks_after}
+use Rattle.rt_meaning.specs.Runs.{after, rise_from, ticks_after}
 use Rattle.rt_meaning.specs.Source.{world_of, state_of}
-use Rattle.rt_runs.specs.Code.{reached_at}
-use Rattle.rt_runs.proofs.Placements.{ticks_to}
-use Rattle.rt_runs.proofs.run.run_from.Given as goal
+use Rattle.rt_meaning.specs.Code.{reached_at}
+use Rattle.rt_meaning.proofs.Placements.{ticks_to}
+use Rattle.rt_meaning.proofs.run.run_from.Given as goal
 
 abbrev pub invariant-loop-done : goal.invariant-loop-done
 invariant-loop-done l = record {

@@ -1,7 +1,7 @@
 use Rattle.std.proofs.Common.{◌≡◌, ◌+◌, ◌*◌, ◌≤◌}
-use Rattle.rt_runs.specs.Runs.{ticks}
+use Rattle.rt_meaning.specs.Runs.{ticks}
 use Rattle.rt_meaning.specs.Source.{world_of, state_of}
-use Rattle.rt_runs.proofs.run.take_ticks.Given as goal
+use Rattle.rt_meaning.proofs.run.take_ticks.Given as goal
 
 abbrev pub invariant-loop-turn : goal.invariant-loop-turn
 invariant-loop-turn l = record {

@@ -2,8 +2,8 @@
 use Rattle.std.proofs.Common.{◌≡◌, ℕ, zero, suc, ◌+◌, ◌<◌, ◌==◌, Bool, true, false, ◌&&◌, nat_le, List, [], ◌∷◌, ◌++◌, Option, Some, None, refl, ap, arith, eqb-true, leb-true, eq-eqb}
 use Rattle.rt_resolve.specs.World.{World}
 use Rattle.rt_meaning.specs.Run.{State}
-use Rattle.rt_runs.specs.Runs.{Reached, ticks_after, then_step, then_ticks, after, rise_from, are_placements}
-use Rattle.rt_runs.proofs.Placements.{one_if, no_hit, after_cons}
+use Rattle.rt_meaning.specs.Runs.{Reached, ticks_after, then_step, then_ticks, after, rise_from, are_placements}
+use Rattle.rt_meaning.proofs.Placements.{one_if, no_hit, after_cons}
 
 -- ---- one more tick
 

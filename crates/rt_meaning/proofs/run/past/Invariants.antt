@@ -1,6 +1,6 @@
 use Rattle.std.proofs.Common.{◌≤◌}
-use Rattle.rt_runs.proofs.Rising.{Passed}
-use Rattle.rt_runs.proofs.run.past.Given as goal
+use Rattle.rt_meaning.proofs.Rising.{Passed}
+use Rattle.rt_meaning.proofs.run.past.Given as goal
 
 abbrev pub invariant-loop-at : goal.invariant-loop-at
 invariant-loop-at l = record {

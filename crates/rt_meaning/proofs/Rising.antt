@@ -2,8 +2,8 @@
 use Rattle.std.proofs.Common.{◌≡◌, ◌≢◌, ℕ, ◌+◌, ◌-◌, ◌<◌, ◌≤◌, ◌==◌, Bool, true, false, ◌&&◌, nat_le, List, [], ◌∷◌, drop, get_or, length, refl, sym, ap, ◌∙◌, subst, arith, eqb-true, leb-true, eq-eqb}
 use Rattle.std.proofs.lemmas.List.{drop_more, drop_all}
 use Rattle.std.proofs.lemmas.Bool.Decides.{nat_tests}
-use Rattle.rt_runs.specs.Runs.{ticks_after, rise_from}
-use Rattle.rt_runs.proofs.Placements.{one_if, no_hit, after_cons}
+use Rattle.rt_meaning.specs.Runs.{ticks_after, rise_from}
+use Rattle.rt_meaning.proofs.Placements.{one_if, no_hit, after_cons}
 
 both_true : (a b : Bool) → a && b ≡ true → (a ≡ true) × (b ≡ true)
 both_true true b e = (refl, e)

@@ -1,9 +1,9 @@
 use Rattle.std.proofs.Common.{◌+◌, suc, add-one, arith, sym, ◌∙◌}
 use Rattle.rt_meaning.specs.Source.{world_of, state_of}
-use Rattle.rt_runs.specs.Code.{reached_at}
-use Rattle.rt_runs.proofs.Placements.{ticks_to_few, none_stays, next_turn, to_next}
-use Rattle.rt_runs.proofs.Rising.{turn_ticks}
-use Rattle.rt_runs.proofs.run.run_from.Goals as goal
+use Rattle.rt_meaning.specs.Code.{reached_at}
+use Rattle.rt_meaning.proofs.Placements.{ticks_to_few, none_stays, next_turn, to_next}
+use Rattle.rt_meaning.proofs.Rising.{turn_ticks}
+use Rattle.rt_meaning.proofs.run.run_from.Goals as goal
 
 pub turn-requires-clause-stamp : goal.turn-requires-clause-stamp
 turn-requires-clause-stamp c =

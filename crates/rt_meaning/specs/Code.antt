@@ -2,8 +2,8 @@
 use Rattle.std.specs.Prelude.{ℕ, Bool, true, false, List, Option, Some, None}
 use Rattle.rt_meaning.specs.declared.state.SourceState.{SourceState}
 use Rattle.rt_meaning.specs.Source.{state_of}
-use Rattle.rt_runs.specs.declared.run.Reached.{Reached as ReachedNode}
-use Rattle.rt_runs.specs.Runs.{Reached}
+use Rattle.rt_meaning.specs.declared.run.Reached.{Reached as ReachedNode}
+use Rattle.rt_meaning.specs.Runs.{Reached}
 
 -- what a run has come to
 abbrev pub reached_at : SourceState → List ℕ → Reached

@@ -1,6 +1,6 @@
 use Rattle.std.proofs.Common.{arith}
-use Rattle.rt_runs.proofs.Rising.{passed_none, passed_more, ends_here, ends_last}
-use Rattle.rt_runs.proofs.run.past.Goals as goal
+use Rattle.rt_meaning.proofs.Rising.{passed_none, passed_more, ends_here, ends_last}
+use Rattle.rt_meaning.proofs.run.past.Goals as goal
 
 pub loop-at-init : goal.loop-at-init
 loop-at-init c = record { passed = passed_none c.args.placements.now c.args.next c.args.steps; from = omega arith }

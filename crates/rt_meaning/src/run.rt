@@ -4,10 +4,11 @@ ghost use Rattle.std.specs.Prelude.{◌≡◌, ◌+◌, ◌*◌, ◌-◌, ◌^�
 ghost use Rattle.rt_meaning.specs.Roots.{priorities};
 ghost use Rattle.rt_meaning.specs.Source as source;
 ghost use Rattle.rt_resolve.specs.Systems.{IsNumbered};
-ghost use Rattle.rt_runs.specs.Code as code;
-ghost use Rattle.rt_runs.specs.Runs as run;
+ghost use Rattle.rt_meaning.specs.Code as code;
+ghost use Rattle.rt_meaning.specs.Runs as run;
 
-use rt_meaning::{SourceState, SourceTask};
+use crate::begin::SourceTask;
+use crate::state::SourceState;
 use rt_tree::TypedModule;
 use rt_words::{Bytes, List, Memory};
 use std::alloc::Global;

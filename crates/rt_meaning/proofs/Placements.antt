@@ -2,7 +2,7 @@
 use Rattle.std.proofs.Common.{◌≡◌, ℕ, zero, suc, ◌+◌, ◌-◌, ◌<◌, ◌≤◌, ◌==◌, Bool, true, false, if◌then◌else◌, List, [], ◌∷◌, Option, Some, None, length, refl, sym, ◌∙◌, ap, arith, eqb-true}
 use Rattle.rt_resolve.specs.World.{World}
 use Rattle.rt_meaning.specs.Run.{State}
-use Rattle.rt_runs.specs.Runs.{Reached, ticks_after, then_step, then_ticks, after}
+use Rattle.rt_meaning.specs.Runs.{Reached, ticks_after, then_step, then_ticks, after}
 
 abbrev pub ticks_to : List ℕ → ℕ → ℕ
 ticks_to ps zero = ticks_after ps 0

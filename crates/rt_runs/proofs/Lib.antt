@@ -1,3 +1,0 @@
-pub mod Longer
-mod Placements
-mod Rising
