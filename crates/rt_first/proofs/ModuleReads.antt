@@ -14,7 +14,7 @@ use Rattle.rt_first.specs.ReadingModule.{letters, word, mark, number, name, titl
 use Rattle.rt_first.specs.ReadingModule as reads
 use Rattle.std.specs.Str.{bytes_eq}
 use Rattle.std.proofs.lemmas.Slice.Eq.{bytes_eq-Decides}
-use Rattle.rt_first.proofs.Runs.{each_of, all_of}
+use Rattle.rt_first.proofs.WordRuns.{each_of, all_of}
 use Rattle.rt_first.proofs.Reading.{Reads, Any, none_some, some_inj, passes, found, reads_behind, reads_before, reads_both, reads_passing}
 use Rattle.rt_first.proofs.PieceReads.{run_means, and_parts, list_each, each_list, layout_is, layout_means, le_is, le_means, spelled_letters, reads_letters, reads_word, reads_mark, reads_number, letters_no_mark}
 use Rattle.rt_first.proofs.NameReads.{name_means, name_is}

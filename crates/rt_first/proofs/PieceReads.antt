@@ -11,7 +11,7 @@ use Rattle.rt_first.specs.Pieces.{Piece, Letters, Number, Mark, IsLayout, value_
 use Rattle.rt_first.specs.Readers.{Reader, is_layout, is_letter, is_digit, is_letter_or_digit, run, after_layout, digits_value}
 use Rattle.rt_first.specs.ReadingModule.{letters_at, letters, word, mark_at, mark, quoted_at, decimal_at, or_else, number}
 use Rattle.rt_first.specs.ReadingSystem.{is_run}
-use Rattle.rt_first.proofs.Runs.{Each, Ends, IsRun, run_sound, run_complete, each_of, all_of}
+use Rattle.rt_first.proofs.WordRuns.{Each, Ends, IsRun, run_sound, run_complete, each_of, all_of}
 use Rattle.rt_first.proofs.Reading.{Reads, Any, none_some, passes, found}
 
 -- ---- bytes

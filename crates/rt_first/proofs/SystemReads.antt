@@ -14,7 +14,7 @@ use Rattle.rt_first.specs.System.{IsPrintable, system_text, IsFirstSystem}
 use Rattle.rt_first.specs.declared.system.FirstSystem.{FirstSystem}
 use Rattle.rt_first.specs.Readers.{and_then, before, both, passing, is_digit, is_printable, run, is_name, digits_value}
 use Rattle.rt_first.specs.ReadingSystem.{exactly, field, is_some, is_run, name_field, priority_of, numbered, priority, file_field, spaced_name, module_line, Fields, task_line, is_end, ended, fields_of}
-use Rattle.rt_first.proofs.Runs.{Each, Ends, run_sound, run_complete, each_of, all_of}
+use Rattle.rt_first.proofs.WordRuns.{Each, Ends, run_sound, run_complete, each_of, all_of}
 use Rattle.rt_first.proofs.Reading.{ReadsBefore, Reads, Any, none_some, some_inj, passes, found, reads_behind, reads_both, reads_passing}
 use Rattle.rt_first.proofs.PieceReads.{true_false, and_parts, and_both, list_each, each_list, run_means, run_is, digit_is, digit_means, value_is}
 use Rattle.rt_first.proofs.NameReads.{name_means, name_is}

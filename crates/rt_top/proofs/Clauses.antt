@@ -8,11 +8,11 @@ use Rattle.rt_commands.specs.declared.lent.CommandWords.TheVariants as lent
 use Rattle.rt_commands.specs.declared.lent.TimedWords.{TimedWords}
 use Rattle.rt_commands.specs.Reading.{said}
 use Rattle.rt_commands.proofs.CommandReads.{one_command}
-use Rattle.rt_first_go.specs.declared.refusal.Refusal.TheVariants.{NoFile}
-use Rattle.rt_first_go.specs.declared.refusal.Refusal.{Refusal}
-use Rattle.rt_first_go.specs.Headline as go
-use Rattle.rt_first_go.specs.Outcome.{Refuses, IsInTurn, system_missing, ticks_missing, module_missing}
-use Rattle.rt_first_go.specs.Words.{Go, IsGo, image_name, report_name}
+use Rattle.rt_first.specs.declared.refusal.Refusal.TheVariants.{NoFile}
+use Rattle.rt_first.specs.declared.refusal.Refusal.{Refusal}
+use Rattle.rt_first.specs.Headline as go
+use Rattle.rt_first.specs.Outcome.{Refuses, IsInTurn, system_missing, ticks_missing, module_missing}
+use Rattle.rt_first.specs.Words.{Go, IsGo, image_name, report_name}
 use Rattle.rt_outside.specs.Files.{Files, IsTold, Lacks}
 use Rattle.rt_words.specs.Causes.{Rose}
 use Rattle.rt_top.specs.Calls.{Call, without_input, KeepsInput, KeepsOthers, Says}

@@ -2,14 +2,14 @@
 use Rattle.std.proofs.Common.{◌≡◌, ◌⊎◌, inl, inr, ℕ, List, [], ◌∷◌, Option, Some, None, refl}
 use Rattle.rt_outside.specs.Deeds.{Writes}
 use Rattle.rt_outside.specs.Laws.{Both}
-use Rattle.rt_first_go.specs.declared.image.Image.{Image}
-use Rattle.rt_first_go.specs.declared.refusal.Refusal.{Refusal}
-use Rattle.rt_first_go.specs.declared.refusal.Refusal.TheVariants.{NoFile}
+use Rattle.rt_first.specs.declared.image.Image.{Image}
+use Rattle.rt_first.specs.declared.refusal.Refusal.{Refusal}
+use Rattle.rt_first.specs.declared.refusal.Refusal.TheVariants.{NoFile}
 use Rattle.rt_first.specs.declared.module.FirstModule.{FirstModule}
 use Rattle.rt_first.specs.declared.system.FirstSystem.{FirstSystem}
-use Rattle.rt_first_go.specs.Ends.{ChangesTwo}
-use Rattle.rt_first_go.specs.Headline as go
-use Rattle.rt_first_go.specs.Words.{Go, image_name, report_name}
+use Rattle.rt_first.specs.Ends.{ChangesTwo}
+use Rattle.rt_first.specs.Headline as go
+use Rattle.rt_first.specs.Words.{Go, image_name, report_name}
 use Rattle.rt_outside.specs.Files.{Files}
 use Rattle.rt_top.specs.Calls.{Call, before, without_input, KeepsOthers}
 use Rattle.rt_top.specs.Compiling.{Named, IsCompiled, CompileEnds}

@@ -3,7 +3,7 @@ use Rattle.std.specs.Io.KnownBytes.{Keeps}
 use Rattle.std.specs.Prelude.{◌≡◌, ℕ, Bool, true, false, List, [], ◌∷◌, Option}
 use Rattle.rt_outside.specs.Deeds.{Deed, Writes, Puts, Outside, Performed}
 use Rattle.rt_outside.specs.Laws.{Both, Among}
-use Rattle.rt_first_go.specs.Ends as go
+use Rattle.rt_first.specs.Ends as go
 use Rattle.rt_outside.specs.Files.{Files}
 use Rattle.rt_run.specs.Inputs.{Feed}
 

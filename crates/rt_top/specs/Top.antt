@@ -4,8 +4,8 @@ use Rattle.rt_commands.specs.Commands.{IsCommand}
 use Rattle.rt_commands.specs.declared.command.Command.{Command}
 use Rattle.rt_commands.specs.declared.command.Command.TheVariants as command
 use Rattle.rt_commands.specs.declared.lent.TimedWords.{TimedWords}
-use Rattle.rt_first_go.specs.Headline as go
-use Rattle.rt_first_go.specs.Words.{Go, IsGo, image_name, report_name}
+use Rattle.rt_first.specs.Headline as go
+use Rattle.rt_first.specs.Words.{Go, IsGo, image_name, report_name}
 use Rattle.rt_outside.specs.Files.{IsTold, Lacks}
 use Rattle.rt_words.specs.Causes.{Rose}
 use Rattle.rt_top.specs.Calls.{Call, without_input, KeepsInput, NothingDone, KeepsOthers, Says}

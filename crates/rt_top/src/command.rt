@@ -3,7 +3,7 @@
 ghost use Rattle.std.specs.Prelude.{◌≡◌, map, string_bytes};
 ghost use Rattle.rt_run.specs.Inputs.{feed};
 ghost use Rattle.rt_top.specs.Calls.{the_call};
-ghost use Rattle.rt_first_go.specs.GoWords.{go_of};
+ghost use Rattle.rt_first.specs.GoWords.{go_of};
 ghost use Rattle.rt_top.specs.Top.{asked_go, Headline};
 
 use crate::compiling::compile;
@@ -13,7 +13,7 @@ use crate::running::run;
 use crate::showing::show;
 use crate::stacking::stacks;
 use rt_commands::{CommandWords, TimedWords, lend_words};
-use rt_first_go::{GoWords, go};
+use rt_first::{GoWords, go};
 use rt_outside::{Sink, Source, Store};
 use std::alloc::Global;
 
@@ -25,7 +25,7 @@ const WORDS_FAULT: &[u8] = b"FAULT 10\n";
 
 /// Does what the words say, and answers the status.
 ///
-/// - `go SYSTEM TICKS LIMIT NAME` compiles, links and runs a system of the first form: [`rt_first_go::go`].
+/// - `go SYSTEM TICKS LIMIT NAME` compiles, links and runs a system of the first form: [`rt_first::go`].
 /// - `compile SOURCE OBJECT` compiles a module's text, and writes its object. It answers 0 then, 11 and 20 where the file is refused,
 ///   whose fault line is put, 21 where the file or the output can't be written, and 30 for want of memory.
 /// - `link SYSTEM IMAGE MAP` reads a system's text and its modules, links them, and writes the image and then its map. It answers 0 then,

@@ -1,5 +1,5 @@
 use Rattle.std.proofs.Common.{map, string_bytes, refl}
-use Rattle.rt_first_go.specs.GoWords.{go_of}
+use Rattle.rt_first.specs.GoWords.{go_of}
 use Rattle.rt_top.specs.Compiling.{named}
 use Rattle.rt_top.specs.Linking.{link_names}
 use Rattle.rt_top.specs.Running.{asked}
