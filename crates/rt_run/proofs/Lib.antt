@@ -1,3 +1,13 @@
+pub mod Marked
+pub mod Tabled
+pub mod Listed
+pub mod Follows
+pub mod Leaving
+pub mod Joining
+pub mod Heads
+pub mod QueuePlaces
+pub mod MarksCounted
+pub mod Ticked
 pub mod Feeding
 pub mod Settling
 pub mod Carrying

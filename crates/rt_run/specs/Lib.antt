@@ -1,3 +1,7 @@
+pub mod Marks
+pub mod Queue
+pub mod Queues
+pub mod SuperLaws
 pub mod Services
 pub mod Ticking
 pub mod Inputs

@@ -8,9 +8,9 @@ ghost use Rattle.rt_run.specs.Inputs.{feed};
 ghost use Rattle.rt_run.specs.Carrying.{IsServed, IsRead, IsWritten, IsAsked, IsGranted, IsServedBy, IsAnswered, IsCarried, carried_of};
 
 use crate::service::{Answer, answer_of, give, service_of};
+use crate::supervisor::Supervisor;
 use pdp_core::{Done, Kind, Stop};
 use rt_outside::{Next, Sink, Source};
-use rt_super::Supervisor;
 use rt_tasks::Running;
 
 /// What RRIN answers at the end of the input.

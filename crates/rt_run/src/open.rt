@@ -6,8 +6,8 @@ ghost use Rattle.rt_rules.specs.Rules as rules;
 ghost use Rattle.rt_run.specs.Boundaries.{priority_of};
 ghost use Rattle.rt_run.specs.Picture.{HaveStarted};
 
+use crate::supervisor::Supervisor;
 use rt_image::Image;
-use rt_super::Supervisor;
 use rt_tasks::Parked;
 use rt_words::{ListBuilder, Memory};
 use std::alloc::Global;

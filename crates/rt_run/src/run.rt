@@ -7,11 +7,11 @@ ghost use Rattle.rt_run.specs.Picture.{Shows};
 ghost use Rattle.rt_run.specs.Runs.{Runs};
 
 use crate::machine::{End, Machine};
+use crate::supervisor::Supervisor;
 use crate::timetable::Timetable;
 use rt_image::Image;
 use rt_outside::{Sink, Source};
 use rt_rules::State;
-use rt_super::Supervisor;
 use rt_system::Ticks;
 use rt_tasks::parts_make_one_memory;
 use rt_words::Memory;

@@ -4,9 +4,9 @@ ghost use Rattle.rt_rules.specs.Roster as roster;
 ghost use Rattle.rt_run.specs.Boundaries as machine;
 ghost use Rattle.rt_run.specs.Boundaries.{Settles};
 
+use crate::supervisor::Supervisor;
 use crate::timetable::Timetable;
 use rt_rules::{State, clock_and_stamp_stay_low};
-use rt_super::Supervisor;
 
 fn has_ended(state: State) -> bool
     ensures { result ≡ roster.has_ended state }

@@ -8,10 +8,10 @@ ghost use Rattle.rt_run.specs.Carrying.{carried_of};
 ghost use Rattle.rt_run.specs.Turn.{counts, is_gone, ended_by, Counted, Lasts, Stretches};
 
 use crate::carry::{Carried, carry_out};
+use crate::supervisor::Supervisor;
 use pdp_core::{Done, Stop};
 use rt_outside::{Sink, Source};
 use rt_rules::clock_and_stamp_stay_low;
-use rt_super::Supervisor;
 use rt_tasks::Running;
 
 /// What a task did while it ran: how its last instruction ended, how many were carried out, and their marks, added up.

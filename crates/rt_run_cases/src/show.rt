@@ -2,8 +2,7 @@
 
 use itoa::Buffer;
 use pdp_core::Kind;
-use rt_run::{End, Run};
-use rt_super::Supervisor;
+use rt_run::{End, Run, Supervisor};
 use rt_words::{Memory, Text, octal6};
 
 /// So many ticks are shown one by one.

@@ -3,7 +3,7 @@
 use crate::steps::Pair;
 use itoa::Buffer;
 use rt_rules::{Rules, State, TaskRow};
-use rt_super::Supervisor;
+use rt_run::Supervisor;
 use rt_words::{Memory, Text};
 
 /// Appends a text and a number.

@@ -4,7 +4,7 @@ ghost use Rattle.std.specs.Prelude.{◌≡◌, ◌<◌, ◌≤◌, ◌-◌, ◌^
 
 use crate::show::show_count;
 use rt_rules::{Outcome, Rules, Svc};
-use rt_super::Supervisor;
+use rt_run::Supervisor;
 use rt_words::{Memory, Text};
 use std::alloc::Global;
 

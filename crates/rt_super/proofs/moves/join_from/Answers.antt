@@ -1,7 +1,0 @@
-use Rattle.std.proofs.Common.{ℕ, subst, arith}
-use Rattle.rt_super.specs.Queues.{HasQueues}
-use Rattle.rt_super.proofs.moves.join_from.Goals as goal
-
-pub returns : goal.returns
-returns c =
-    subst (λ (n : ℕ). HasQueues c.args.rules.now n c.loop-stamp.queues) (omega arith) c.loop-stamp.invariant.1

@@ -1,4 +1,0 @@
-pub mod Marks
-pub mod Queue
-pub mod Queues
-pub mod Laws
