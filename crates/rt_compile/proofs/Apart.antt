@@ -7,7 +7,7 @@ use Rattle.rt_tree_nodes.specs.declared.brick.ModuleParts.{ModuleParts}
 use Rattle.rt_object.specs.declared.object.Brick.{Brick as Compiled}
 use Rattle.rt_object.specs.declared.object.ObjectParts.{ObjectParts}
 use Rattle.rt_icode.specs.declared.procedure.IProc.{IProc}
-use Rattle.rt_layouts.specs.declared.layouts.Layouts.{Layouts}
+use Rattle.rt_lower.specs.declared.layouts.Layouts.{Layouts}
 use Rattle.rt_lower.specs.Code.{procedure_by, procedures, intermediate}
 use Rattle.rt_templates.specs.declared.code.ProcCode.{ProcCode}
 use Rattle.rt_templates.specs.Expanded.{proc_of}

@@ -20,8 +20,8 @@ use Rattle.rt_tree.specs.Modules as modules
 use Rattle.rt_object.specs.declared.object.Relocated.{Relocated}
 use Rattle.rt_object.specs.declared.object.Relocated.TheVariants as relocated
 use Rattle.rt_object.specs.Ranges.{IsProcMode, IsProcLayer}
-use Rattle.rt_layouts.specs.declared.layouts.Layouts.{Layouts}
-use Rattle.rt_layouts.specs.Layouts.{table_of}
+use Rattle.rt_lower.specs.declared.layouts.Layouts.{Layouts}
+use Rattle.rt_lower.specs.Layouts.{table_of}
 use Rattle.rt_compile.specs.declared.data.written.Data.{Data}
 use Rattle.rt_compile.specs.Data.{nothing, with_bytes, even, word, address, offset_of, Writing, number, elements, fields, record_fields, listed, one_start, starts, data_of}
 use Rattle.rt_compile.proofs.Layers.{out_roll, fits_at, written_at}

@@ -7,7 +7,7 @@ use Rattle.rt_tree_nodes.specs.declared.brick.DataStart.TheOpen.{DataStart-F}
 use Rattle.rt_tree_nodes.specs.Scopes.{Scope}
 use Rattle.rt_tree.specs.Modules.{Starts}
 use Rattle.rt_tree.specs.Modules as modules
-use Rattle.rt_layouts.specs.declared.layouts.Layouts.{Layouts}
+use Rattle.rt_lower.specs.declared.layouts.Layouts.{Layouts}
 use Rattle.rt_compile.specs.Data.{Writing, one_start, starts}
 
 pub out_roll : (x : DataStart-F DataStart) → out-DataStart (roll-DataStart x) ≡ x

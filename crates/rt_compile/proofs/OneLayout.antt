@@ -6,8 +6,8 @@ use Rattle.rt_modes.specs.declared.mode.RecordDef.{RecordDef}
 use Rattle.rt_sizes.specs.Sizes.{Table}
 use Rattle.rt_sizes_laws.specs.Laws.{TablesTellOnce}
 use Rattle.rt_tree_nodes.specs.declared.brick.ModuleParts.{ModuleParts}
-use Rattle.rt_layouts.specs.declared.layouts.Layouts.{Layouts}
-use Rattle.rt_layouts.specs.Layouts.{AreOffsets, AreRows, AreRecordSizes, AreLayouts, ItemsBegin, FieldsBegin, table_of, fields_in}
+use Rattle.rt_lower.specs.declared.layouts.Layouts.{Layouts}
+use Rattle.rt_lower.specs.Layouts.{AreOffsets, AreRows, AreRecordSizes, AreLayouts, ItemsBegin, FieldsBegin, table_of, fields_in}
 use Rattle.rt_compile.proofs.Lists.{same_lists}
 
 -- ---- rows

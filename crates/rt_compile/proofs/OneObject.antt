@@ -14,7 +14,7 @@ use Rattle.rt_object.specs.declared.object.Brick.{Brick as Compiled}
 use Rattle.rt_object.specs.declared.object.ObjectParts.{ObjectParts}
 use Rattle.rt_icode.specs.declared.procedure.IModule.{IModule}
 use Rattle.rt_icode.specs.declared.procedure.IProc.{IProc}
-use Rattle.rt_layouts.specs.declared.layouts.Layouts.{Layouts}
+use Rattle.rt_lower.specs.declared.layouts.Layouts.{Layouts}
 use Rattle.rt_lower.specs.Code.{intermediate}
 use Rattle.rt_templates.specs.Expanded.{IsTooLong}
 use Rattle.rt_compile.specs.Objects.{AreShort, IsObjectWith, IsObjectOf, HasLongProc}

@@ -17,7 +17,7 @@ use Rattle.rt_object.specs.declared.object.Relocated.{Relocated}
 use Rattle.rt_object.specs.declared.object.Relocated.TheVariants as relocated
 use Rattle.rt_object.specs.declared.object.Relocation.{Relocation}
 use Rattle.rt_object.specs.Ranges.{Rise}
-use Rattle.rt_layouts.specs.declared.layouts.Layouts.{Layouts}
+use Rattle.rt_lower.specs.declared.layouts.Layouts.{Layouts}
 use Rattle.rt_compile.specs.declared.data.written.Data.{Data}
 use Rattle.rt_compile.specs.Data.{nothing, with_bytes, even, word, relocation, hole, address, offset_of, Writing, number, elements, fields, record_fields, listed, one_start, starts, data_of}
 use Rattle.rt_compile.specs.DataLaws.{places, IsInside, AreWithin}

@@ -13,8 +13,8 @@ use Rattle.rt_tree.specs.Modules.{part_mode, shared_mode}
 use Rattle.rt_object.specs.declared.object.Relocation.{Relocation}
 use Rattle.rt_object.specs.declared.object.Relocated.{Relocated}
 use Rattle.rt_object.specs.declared.object.Relocated.TheVariants as relocated
-use Rattle.rt_layouts.specs.declared.layouts.Layouts.{Layouts}
-use Rattle.rt_layouts.specs.Layouts.{item_offset, field_offset, bytes}
+use Rattle.rt_lower.specs.declared.layouts.Layouts.{Layouts}
+use Rattle.rt_lower.specs.Layouts.{item_offset, field_offset, bytes}
 use Rattle.rt_compile.specs.declared.data.written.Data.{Data}
 
 -- ---- what is written, one value behind another

@@ -11,8 +11,8 @@ use Rattle.rt_tree_nodes.specs.Scopes.{Scope, scope_of}
 use Rattle.rt_tree.specs.Modules.{is_here, every_node_fits}
 use Rattle.rt_object.specs.declared.object.Relocation.{Relocation}
 use Rattle.rt_object.specs.Ranges.{Rise, IsNamed}
-use Rattle.rt_layouts.specs.declared.layouts.Layouts.{Layouts}
-use Rattle.rt_layouts.specs.Layouts.{table_of}
+use Rattle.rt_lower.specs.declared.layouts.Layouts.{Layouts}
+use Rattle.rt_lower.specs.Layouts.{table_of}
 use Rattle.rt_compile.specs.declared.data.written.Data.{Data}
 use Rattle.rt_compile.specs.Data.{data_of}
 

@@ -32,8 +32,8 @@ use Rattle.rt_frames.specs.declared.frame.Frame.{Frame}
 use Rattle.rt_frames.specs.declared.frame.Target.{Target as Called}
 use Rattle.rt_frames.specs.declared.frame.Target.TheVariants as called
 use Rattle.rt_frames.specs.Frames.{frame}
-use Rattle.rt_layouts.specs.declared.layouts.Layouts.{Layouts}
-use Rattle.rt_layouts.specs.Layouts.{AreLayouts}
+use Rattle.rt_lower.specs.declared.layouts.Layouts.{Layouts}
+use Rattle.rt_lower.specs.Layouts.{AreLayouts}
 use Rattle.rt_lower.specs.Code.{procedure, intermediate}
 use Rattle.rt_templates.specs.declared.code.ProcCode.{ProcCode}
 use Rattle.rt_templates.specs.Expanded as code

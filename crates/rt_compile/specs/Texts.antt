@@ -6,7 +6,7 @@ use Rattle.rt_object.specs.Ranges.{HasObjectRanges}
 use Rattle.rt_check.specs.declared.fault.ModuleFault.{ModuleFault}
 use Rattle.rt_check.specs.declared.fault.ModuleFault.TheVariants as module_fault
 use Rattle.rt_check.specs.Texts.{IsTree, IsFaultOf}
-use Rattle.rt_layouts.specs.declared.layouts.Layouts.{Layouts}
+use Rattle.rt_lower.specs.declared.layouts.Layouts.{Layouts}
 use Rattle.rt_lower.specs.Code.{intermediate}
 use Rattle.rt_templates.specs.Expanded.{IsTooLong}
 use Rattle.rt_templates.specs.declared.fault.ExpandFault.{ExpandFault}

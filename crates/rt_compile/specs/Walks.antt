@@ -6,7 +6,7 @@ use Rattle.rt_tree_nodes.specs.declared.brick.BrickSort.TheVariants as sort
 use Rattle.rt_tree_nodes.specs.declared.brick.ModuleParts.{ModuleParts}
 use Rattle.rt_object.specs.declared.object.Brick.{Brick as Compiled}
 use Rattle.rt_object.specs.declared.object.ObjectParts.{ObjectParts}
-use Rattle.rt_layouts.specs.declared.layouts.Layouts.{Layouts}
+use Rattle.rt_lower.specs.declared.layouts.Layouts.{Layouts}
 use Rattle.rt_templates.specs.declared.code.ProcCode.{ProcCode}
 use Rattle.rt_compile.specs.Taken.{AreTaken}
 use Rattle.rt_compile.specs.Objects.{brick_by}

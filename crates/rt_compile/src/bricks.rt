@@ -6,7 +6,7 @@ ghost use Rattle.rt_compile.specs.Objects as object;
 ghost use Rattle.rt_compile.specs.Walks as walks;
 
 use crate::contents::{content, external, supplied};
-use rt_layouts::Layouts;
+use rt_lower::Layouts;
 use rt_object::{Brick, BrickKind};
 use rt_templates::ProcCode;
 use rt_tree::{BrickSort, Kind, TypedModule};

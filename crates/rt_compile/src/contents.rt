@@ -11,7 +11,7 @@ use crate::copies::{calls_of, copy_fields};
 use crate::data::starts::data_of;
 use crate::data::written::Data;
 use rt_frames::{Frame, frame_of};
-use rt_layouts::Layouts;
+use rt_lower::Layouts;
 use rt_modes::{Field, Mode};
 use rt_object::{Content, DataContent, External, ProcContent, Supplied};
 use rt_templates::ProcCode;

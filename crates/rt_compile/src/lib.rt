@@ -1,8 +1,8 @@
 //! The compiler: from the text of a module to its object, or the first fault.
 //!
 //! `specs/Objects.antt` has the object of a typed module, brick by brick, and `specs/Texts.antt` what a text gives. [`compile`] puts one
-//! behind the other what makes the parts: the typed module (`rt_check`), how its data lie (`rt_layouts`), the intermediate code of its
-//! procedures (`rt_lower`) and the machine's of that (`rt_templates`), frames (`rt_frames`), the bytes of data (`specs/Data.antt`) and the
+//! behind the other what makes the parts: the typed module (`rt_check`), how its data lie and the intermediate code of its
+//! procedures (`rt_lower`), and the machine's of that (`rt_templates`), frames (`rt_frames`), the bytes of data (`specs/Data.antt`) and the
 //! procedures that stand as values (`specs/Taken.antt`).
 #![tactic(auto)]
 

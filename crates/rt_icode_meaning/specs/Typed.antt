@@ -19,7 +19,7 @@ use Rattle.rt_tree.specs.Modules.{is_here}
 use Rattle.rt_tree.specs.Stored.{System, HasBrick, brick}
 use Rattle.rt_work_state.specs.Items.{Env}
 use Rattle.rt_resolve.specs.Matching.{no_records, IsSupplied}
-use Rattle.rt_layouts.specs.Layouts.{table_of}
+use Rattle.rt_lower.specs.Layouts.{table_of}
 use Rattle.rt_meaning_laws.specs.Slots.{LeadsTo, IsByte, IsOf, AreOf}
 use Rattle.rt_icode.specs.declared.ins.Fixed.{Fixed}
 use Rattle.rt_icode.specs.declared.ins.Width.{Width}

@@ -2,7 +2,7 @@
 use Rattle.std.proofs.Common.{◌≡◌, ℕ, ◌<◌, Some, None, refl, subst, arith}
 use Rattle.rt_tree_nodes.specs.Tree.{Stmt, If, Seq, Done, Then, Mark}
 use Rattle.rt_lower.specs.declared.draft.Draft.{Draft}
-use Rattle.rt_layouts.specs.declared.layouts.Layouts.{Layouts}
+use Rattle.rt_lower.specs.declared.layouts.Layouts.{Layouts}
 use Rattle.rt_lower.specs.Drafts.{IfParts, parts_of, alone_if, arm, otherwise, sequence}
 use Rattle.rt_work_state.proofs.Sizes.{size_q}
 

@@ -7,7 +7,7 @@ use Rattle.rt_icode.specs.declared.ins.Ins.TheVariants as ins
 use Rattle.rt_lower.specs.declared.draft.Draft.{Draft}
 use Rattle.rt_lower.specs.declared.draft.Piece.{Piece}
 use Rattle.rt_lower.specs.declared.draft.Piece.TheVariants as piece
-use Rattle.rt_layouts.specs.declared.layouts.Layouts.{Layouts}
+use Rattle.rt_lower.specs.declared.layouts.Layouts.{Layouts}
 use Rattle.rt_lower.specs.Values.{value}
 use Rattle.rt_lower.specs.Code as code
 use Rattle.rt_lower.specs.Code.{Leads, nowhere, cases, for_head, extent}

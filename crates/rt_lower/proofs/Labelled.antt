@@ -10,7 +10,7 @@ use Rattle.rt_tree_nodes.specs.Tree.{Cond, Is, Both, Either, Stmt, Keep, Clear, 
 use Rattle.rt_work_state.specs.Items.{or_else}
 use Rattle.rt_lower.specs.declared.draft.Draft.{Draft}
 use Rattle.rt_lower.specs.declared.draft.Piece.TheVariants as piece
-use Rattle.rt_layouts.specs.declared.layouts.Layouts.{Layouts}
+use Rattle.rt_lower.specs.declared.layouts.Layouts.{Layouts}
 use Rattle.rt_lower.specs.Values.{value}
 use Rattle.rt_lower.specs.Code as code
 use Rattle.rt_lower.specs.Code.{nowhere, for_head, extent, reach, span, place, place_inside}

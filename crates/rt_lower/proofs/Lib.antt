@@ -1,3 +1,5 @@
+mod Listing
+mod Offsets
 pub mod Lengths
 pub mod Laying
 pub mod Drafted

@@ -5,8 +5,8 @@ use Rattle.rt_tree_nodes.specs.Tree.{Seq}
 use Rattle.rt_icode.specs.declared.ins.Ins.{Ins}
 use Rattle.rt_icode.specs.declared.ins.Ins.TheVariants as ins
 use Rattle.rt_lower.specs.declared.draft.Draft.{Draft}
-use Rattle.rt_layouts.specs.declared.layouts.Layouts.{Layouts}
-use Rattle.rt_layouts.specs.Layouts.{number}
+use Rattle.rt_lower.specs.declared.layouts.Layouts.{Layouts}
+use Rattle.rt_lower.specs.Layouts.{number}
 use Rattle.rt_lower.specs.Code as code
 use Rattle.rt_lower.specs.Code.{Leads, leads_in, code_behind}
 use Rattle.rt_lower.specs.Drafts.{put, sequence, place_in, lead_in, laid_from, laid_out}

@@ -13,8 +13,8 @@ use Rattle.rt_icode.specs.declared.ins.Ins.{Ins}
 use Rattle.rt_icode.specs.declared.ins.Ins.TheVariants as ins
 use Rattle.rt_icode.specs.declared.procedure.IProc.{IProc}
 use Rattle.rt_icode.specs.declared.procedure.IModule.{IModule}
-use Rattle.rt_layouts.specs.declared.layouts.Layouts.{Layouts}
-use Rattle.rt_layouts.specs.Layouts.{AreLayouts, number}
+use Rattle.rt_lower.specs.declared.layouts.Layouts.{Layouts}
+use Rattle.rt_lower.specs.Layouts.{AreLayouts, number}
 use Rattle.rt_lower.specs.Values.{site_of, wanted, written, width_of, value, address, alone}
 
 -- where each label leads: the number of an instruction

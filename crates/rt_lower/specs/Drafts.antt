@@ -7,9 +7,9 @@ use Rattle.rt_icode.specs.declared.ins.Ins.TheVariants as ins
 use Rattle.rt_lower.specs.declared.draft.Draft.{Draft}
 use Rattle.rt_lower.specs.declared.draft.Piece.{Piece}
 use Rattle.rt_lower.specs.declared.draft.Piece.TheVariants as piece
-use Rattle.rt_layouts.specs.declared.layouts.Layouts.{Layouts}
+use Rattle.rt_lower.specs.declared.layouts.Layouts.{Layouts}
 use Rattle.rt_lower.specs.declared.statements.Parts.{Parts}
-use Rattle.rt_layouts.specs.Layouts.{number}
+use Rattle.rt_lower.specs.Layouts.{number}
 use Rattle.rt_lower.specs.Values.{site_of, wanted, written, width_of, value, address, alone}
 use Rattle.rt_lower.specs.Code.{Leads, for_head}
 

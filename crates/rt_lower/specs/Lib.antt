@@ -1,3 +1,4 @@
+pub mod Layouts
 pub mod Values
 pub mod Code
 pub mod Drafts

@@ -19,10 +19,10 @@ use Rattle.rt_icode.specs.declared.ins.Width.{Width}
 use Rattle.rt_icode.specs.declared.ins.Width.TheVariants as width
 use Rattle.rt_icode.specs.declared.ins.Ins.{Ins}
 use Rattle.rt_icode.specs.declared.ins.Ins.TheVariants as ins
-use Rattle.rt_layouts.specs.declared.layouts.Layouts.{Layouts}
+use Rattle.rt_lower.specs.declared.layouts.Layouts.{Layouts}
 use Rattle.rt_lower.specs.declared.site.Site.{Site}
 use Rattle.rt_lower.specs.declared.site.Site.TheVariants as site
-use Rattle.rt_layouts.specs.Layouts.{item_offset, field_offset, bytes}
+use Rattle.rt_lower.specs.Layouts.{item_offset, field_offset, bytes}
 
 -- ---- what a place is
 

@@ -5,11 +5,11 @@ ghost use Rattle.rt_tree.specs.Within.{parameters_of, tree_of};
 ghost use Rattle.rt_work_state.specs.Nodes as n;
 ghost use Rattle.rt_lower.specs.Code as code;
 ghost use Rattle.rt_lower.specs.Drafts as drafts;
-ghost use Rattle.rt_layouts.specs.Layouts.{AreLayouts};
+ghost use Rattle.rt_lower.specs.Layouts.{AreLayouts};
 
 use crate::draft::Draft;
+use crate::layouts::Layouts;
 use rt_icode::{IModule, IProc, Ins};
-use rt_layouts::Layouts;
 use rt_modes::Mode;
 use rt_resolve::body_tree;
 use rt_tree::{Brick, BrickSort, ProcBody, TypedModule};

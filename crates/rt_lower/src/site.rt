@@ -5,8 +5,8 @@ ghost use Rattle.rt_icode.specs.declared.ins.Fixed.{Fixed};
 ghost use Rattle.rt_lower.specs.Values as values;
 ghost use Rattle.rt_work_state.specs.Nodes as n;
 
+use crate::layouts::Layouts;
 use rt_icode::{Fixed, Ins, OwnItem, Width};
-use rt_layouts::Layouts;
 use rt_modes::Mode;
 use rt_words::{List, Memory};
 use rt_work_state::PathNode;

@@ -7,9 +7,9 @@ ghost use Rattle.rt_lower.specs.declared.draft.Piece.TheVariants as piece;
 
 use crate::draft::{Draft, Piece};
 use crate::laid::number;
+use crate::layouts::Layouts;
 use crate::values::{alone, assignment, both, followed, for_head, term};
 use rt_icode::Ins;
-use rt_layouts::Layouts;
 use rt_words::{List, Memory};
 use rt_work_state::{CondNode, LabelsNode, SeqNode, StmtNode, TermNode};
 use std::alloc::Global;

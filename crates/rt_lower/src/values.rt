@@ -6,13 +6,13 @@ ghost use Rattle.rt_work_state.specs.Nodes as n;
 ghost use Rattle.rt_work_state.specs.Items.{how_many};
 ghost use Rattle.rt_lower.specs.Code as codes;
 ghost use Rattle.rt_lower.specs.Drafts.{whole};
-ghost use Rattle.rt_layouts.specs.Layouts.{bytes};
+ghost use Rattle.rt_lower.specs.Layouts.{bytes};
 ghost use Rattle.rt_lower.specs.Values as values;
 
 use crate::draft::Piece;
+use crate::layouts::Layouts;
 use crate::site::{Site, element, read, site_of, sum, told, width, written};
 use rt_icode::{Alter, Division, Ins, Merge, OwnItem};
-use rt_layouts::Layouts;
 use rt_modes::Mode;
 use rt_tree::{Op1, Op2};
 use rt_words::{List, Memory};

@@ -4,7 +4,7 @@ use Rattle.rt_tree_nodes.specs.Tree.{Stmt, Keep, Clear, Put, Run, Toss, Goto, Gi
 use Rattle.rt_work_state.specs.Items.{or_else}
 use Rattle.rt_icode.specs.declared.ins.Ins.{Ins}
 use Rattle.rt_icode.specs.declared.ins.Ins.TheVariants as ins
-use Rattle.rt_layouts.specs.declared.layouts.Layouts.{Layouts}
+use Rattle.rt_lower.specs.declared.layouts.Layouts.{Layouts}
 use Rattle.rt_lower.specs.Values.{value}
 use Rattle.rt_lower.specs.Code.{Leads, nowhere, condition, for_head, statement, sequence, extent, reach, span, place, place_inside}
 use Rattle.rt_lower.proofs.Lengths.{condition_length, statement_length, sequence_length}

@@ -14,7 +14,7 @@ use Rattle.rt_frames.specs.Frames.{body_frame, frame_in}
 use Rattle.rt_frames_laws.specs.Laws.{tree_in, PointsArePlain}
 use Rattle.rt_icode.specs.declared.procedure.IProc.{IProc}
 use Rattle.rt_icode.specs.declared.procedure.IModule.{IModule}
-use Rattle.rt_layouts.specs.declared.layouts.Layouts.{Layouts}
+use Rattle.rt_lower.specs.declared.layouts.Layouts.{Layouts}
 use Rattle.rt_lower.specs.Code.{procedure, procedure_by, procedures}
 use Rattle.rt_lower_frames_laws.specs.Laws.{IsMeasured, IntermediateCodeIsMeasured}
 use Rattle.rt_lower_frames_laws.proofs.Whole.{all_framed}

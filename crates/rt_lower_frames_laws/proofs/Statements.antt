@@ -9,7 +9,7 @@ use Rattle.rt_frames.proofs.Under.{depth_some}
 use Rattle.rt_frames_laws.specs.Plain.{term_points, path_points, condition_points, statement_points, sequence_points}
 use Rattle.rt_icode.specs.declared.ins.Ins.{Ins}
 use Rattle.rt_icode.specs.declared.ins.Ins.TheVariants as ins
-use Rattle.rt_layouts.specs.declared.layouts.Layouts.{Layouts}
+use Rattle.rt_lower.specs.declared.layouts.Layouts.{Layouts}
 use Rattle.rt_lower.specs.Values.{width_of, site_of, value, address}
 use Rattle.rt_lower.specs.Code.{Leads, cases, condition, for_head, statement, sequence}
 use Rattle.rt_lower_frames_laws.specs.Heights.{takes, leaves, points_at}

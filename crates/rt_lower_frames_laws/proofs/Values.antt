@@ -19,8 +19,8 @@ use Rattle.rt_icode.specs.declared.ins.OwnItem.TheVariants as item
 use Rattle.rt_icode.specs.declared.ins.Width.{Width}
 use Rattle.rt_icode.specs.declared.ins.Ins.{Ins}
 use Rattle.rt_icode.specs.declared.ins.Ins.TheVariants as ins
-use Rattle.rt_layouts.specs.declared.layouts.Layouts.{Layouts}
-use Rattle.rt_layouts.specs.Layouts.{field_offset, bytes}
+use Rattle.rt_lower.specs.declared.layouts.Layouts.{Layouts}
+use Rattle.rt_lower.specs.Layouts.{field_offset, bytes}
 use Rattle.rt_lower.specs.declared.site.Site.{Site}
 use Rattle.rt_lower.specs.declared.site.Site.TheVariants as site
 use Rattle.rt_lower.specs.Values.{width_of, site_of, field_site, wanted, read, written, reached, row_reached, told, element, altered, merged, is_sure, divided, division_of, value, address, values, alone}

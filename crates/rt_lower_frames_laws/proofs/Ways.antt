@@ -5,7 +5,7 @@ use Rattle.rt_icode.specs.declared.ins.OwnItem.TheVariants as item
 use Rattle.rt_icode.specs.declared.ins.Ins.{Ins}
 use Rattle.rt_icode.specs.declared.ins.Ins.TheVariants as ins
 use Rattle.rt_icode.specs.Within.{leads}
-use Rattle.rt_layouts.specs.declared.layouts.Layouts.{Layouts}
+use Rattle.rt_lower.specs.declared.layouts.Layouts.{Layouts}
 use Rattle.rt_lower.specs.Values.{width_of, value}
 use Rattle.rt_lower.specs.Code.{Leads, nowhere, cases, condition, for_head, statement, sequence, extent}
 use Rattle.rt_lower.proofs.Lengths.{sequence_length}

@@ -24,8 +24,8 @@ use Rattle.rt_frames_laws.specs.Plain.{sequence_points}
 use Rattle.rt_icode.specs.declared.ins.Ins.{Ins}
 use Rattle.rt_icode.specs.declared.ins.Ins.TheVariants as ins
 use Rattle.rt_icode.specs.Within.{leads, goes_on}
-use Rattle.rt_layouts.specs.declared.layouts.Layouts.{Layouts}
-use Rattle.rt_layouts.specs.Layouts.{number}
+use Rattle.rt_lower.specs.declared.layouts.Layouts.{Layouts}
+use Rattle.rt_lower.specs.Layouts.{number}
 use Rattle.rt_lower.specs.Code.{leads_in, sequence, place, code_of}
 use Rattle.rt_lower_frames_laws.specs.Heights.{takes, leaves, brings, behind, heights, Holds, points_of, told}
 use Rattle.rt_lower_frames_laws.specs.Laws.{ValuesAreThoseOfFrames}

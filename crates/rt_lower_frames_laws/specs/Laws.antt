@@ -11,7 +11,7 @@ use Rattle.rt_frames_laws.specs.Laws.{plain_tree}
 use Rattle.rt_icode.specs.declared.ins.Ins.{Ins}
 use Rattle.rt_icode.specs.declared.procedure.IProc.{IProc}
 use Rattle.rt_icode.specs.declared.procedure.IModule.{IModule}
-use Rattle.rt_layouts.specs.declared.layouts.Layouts.{Layouts}
+use Rattle.rt_lower.specs.declared.layouts.Layouts.{Layouts}
 use Rattle.rt_lower.specs.Code.{IsIntermediate, code_of}
 use Rattle.rt_lower_frames_laws.specs.Heights.{heights, Holds, points_of, told}
 

@@ -9,7 +9,7 @@ use Rattle.rt_icode.specs.declared.ins.OwnItem.TheVariants as item
 use Rattle.rt_icode.specs.declared.ins.Width.{Width}
 use Rattle.rt_icode.specs.declared.ins.Ins.{Ins}
 use Rattle.rt_icode.specs.declared.ins.Ins.TheVariants as ins
-use Rattle.rt_layouts.specs.declared.layouts.Layouts.{Layouts}
+use Rattle.rt_lower.specs.declared.layouts.Layouts.{Layouts}
 use Rattle.rt_lower.specs.declared.site.Site.{Site}
 use Rattle.rt_lower.specs.declared.site.Site.TheVariants as site
 use Rattle.rt_lower.specs.Values.{width_of, site_of, wanted, read, written, reached, row_reached, told, element, altered, merged, is_sure, divided, value, address, values, alone}

@@ -5,8 +5,8 @@ use Rattle.rt_work_state.specs.Items.{or_else}
 use Rattle.rt_icode.specs.declared.ins.Ins.{Ins}
 use Rattle.rt_icode.specs.declared.ins.Ins.TheVariants as ins
 use Rattle.rt_icode.specs.Within.{leads, is_enter}
-use Rattle.rt_layouts.specs.declared.layouts.Layouts.{Layouts}
-use Rattle.rt_layouts.specs.Layouts.{number}
+use Rattle.rt_lower.specs.declared.layouts.Layouts.{Layouts}
+use Rattle.rt_lower.specs.Layouts.{number}
 use Rattle.rt_lower.specs.Values.{value, width_of}
 use Rattle.rt_lower.specs.Code.{Leads, nowhere, cases, for_head, condition, statement, sequence, extent, reach, span, place, place_inside}
 use Rattle.rt_lower.proofs.Lengths.{condition_length, sequence_length}

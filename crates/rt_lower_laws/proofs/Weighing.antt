@@ -14,10 +14,10 @@ use Rattle.rt_icode.specs.declared.ins.Width.TheVariants as width
 use Rattle.rt_icode.specs.declared.ins.Ins.{Ins}
 use Rattle.rt_icode.specs.declared.ins.Ins.TheVariants as ins
 use Rattle.rt_icode.specs.Weights.{scale_words, words_of, unmarked_of}
-use Rattle.rt_layouts.specs.declared.layouts.Layouts.{Layouts}
+use Rattle.rt_lower.specs.declared.layouts.Layouts.{Layouts}
 use Rattle.rt_lower.specs.declared.site.Site.{Site}
 use Rattle.rt_lower.specs.declared.site.Site.TheVariants as site
-use Rattle.rt_layouts.specs.Layouts.{field_offset, bytes}
+use Rattle.rt_lower.specs.Layouts.{field_offset, bytes}
 use Rattle.rt_lower.specs.Values.{width_of, field_site, site_of, wanted, read, written, reached, row_reached, told, element, altered, merged, is_sure, divided, value, address, values, alone}
 use Rattle.rt_lower.specs.Code.{Leads, cases, for_head, condition, statement, sequence}
 use Rattle.rt_lower_laws.specs.Laws.{room, room_in}

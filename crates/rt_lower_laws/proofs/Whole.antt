@@ -22,7 +22,7 @@ use Rattle.rt_icode.specs.declared.ins.Ins.{Ins}
 use Rattle.rt_icode.specs.declared.ins.Ins.TheVariants as ins
 use Rattle.rt_icode.specs.declared.procedure.IModule.{IModule}
 use Rattle.rt_icode.specs.Within.{leads, goes_on, is_enter, IsWithin}
-use Rattle.rt_layouts.specs.declared.layouts.Layouts.{Layouts}
+use Rattle.rt_lower.specs.declared.layouts.Layouts.{Layouts}
 use Rattle.rt_lower.specs.Code.{leads_in, sequence, code_of, procedure, procedure_by, procedures}
 use Rattle.rt_lower.proofs.Lengths.{sequence_length}
 use Rattle.rt_lower_laws.specs.Laws.{CodeIsWithin, NoneRecovers, IsPlain, is_plain, room_in}

@@ -13,7 +13,7 @@ use Rattle.rt_icode.specs.declared.ins.Ins.TheVariants as ins
 use Rattle.rt_icode.specs.declared.procedure.IProc.{IProc}
 use Rattle.rt_icode.specs.declared.procedure.IModule.{IModule}
 use Rattle.rt_icode.specs.Within.{AreWithin}
-use Rattle.rt_layouts.specs.declared.layouts.Layouts.{Layouts}
+use Rattle.rt_lower.specs.declared.layouts.Layouts.{Layouts}
 use Rattle.rt_lower.specs.Code.{IsIntermediate, code_of, leads_in, extent}
 
 abbrev pub CodeIsWithin : Type 0

@@ -6,7 +6,7 @@ ghost use Rattle.rt_tree_nodes.specs.Code as seen;
 ghost use Rattle.rt_compile.specs.Data as bytes;
 
 use crate::data::written::small;
-use rt_layouts::Layouts;
+use rt_lower::Layouts;
 use rt_modes::Mode;
 use rt_tree::{Scope, part_mode, shared_mode};
 use rt_words::Memory;

@@ -7,7 +7,7 @@ ghost use Rattle.rt_compile.specs.Data as bytes;
 
 use crate::data::offset::offset_of;
 use crate::data::written::Data;
-use rt_layouts::Layouts;
+use rt_lower::Layouts;
 use rt_modes::{Field, Mode};
 use rt_object::Relocated;
 use rt_tree::{DataStart, Scope};

@@ -3,8 +3,8 @@ use Rattle.std.specs.Prelude.{slice_get}
 use Rattle.rt_modes.specs.declared.mode.RecordDef.{RecordDef}
 use Rattle.rt_sizes.specs.Capped.{AreSizes}
 use Rattle.rt_sizes.specs.Sizes.{Table}
-use Rattle.rt_layouts.specs.Layouts.{FieldsBegin}
-use Rattle.rt_layouts.proofs.layouts.fields.Given as goal
+use Rattle.rt_lower.specs.Layouts.{FieldsBegin}
+use Rattle.rt_lower.proofs.layouts.fields.Given as goal
 
 abbrev pub invariant-loop-record : goal.invariant-loop-record
 invariant-loop-record l = record {

@@ -2,7 +2,7 @@ use Rattle.std.proofs.Common.{◌≡◌, ℕ, Some, length, take}
 use Rattle.std.specs.Prelude.{slice_get}
 use Rattle.rt_sizes.specs.Capped.{AreSizes}
 use Rattle.rt_sizes.specs.Sizes.{Table, Begins, End}
-use Rattle.rt_layouts.proofs.layouts.offsets.Given as goal
+use Rattle.rt_lower.proofs.layouts.offsets.Given as goal
 
 abbrev pub invariant-loop-k : goal.invariant-loop-k
 invariant-loop-k l = record {

@@ -1,8 +1,8 @@
 use Rattle.std.proofs.Common.{◌≡◌, ℕ, Some}
 use Rattle.rt_modes.specs.declared.mode.Mode.{out-Mode}
 use Rattle.rt_sizes.specs.declared.size.Size.TheVariants as size
-use Rattle.rt_layouts.proofs.Offsets.{ok_then, end_is}
-use Rattle.rt_layouts.proofs.layouts.end_behind.Goals as goal
+use Rattle.rt_lower.proofs.Offsets.{ok_then, end_is}
+use Rattle.rt_lower.proofs.layouts.end_behind.Goals as goal
 
 pub returns : goal.returns
 returns c =

@@ -8,7 +8,7 @@ use Rattle.rt_modes.specs.declared.mode.RecordDef.{RecordDef}
 use Rattle.rt_sizes.specs.Sizes.{most, Table, Begins, within}
 use Rattle.rt_sizes.specs.Capped.{counted, listed, AreSizes}
 use Rattle.rt_sizes.proofs.Kept.{some_counted}
-use Rattle.rt_layouts.specs.Layouts.{table_of, AreRecordSizes}
+use Rattle.rt_lower.specs.Layouts.{table_of, AreRecordSizes}
 
 -- what stands in a list that got one more
 pub pushed : {A : Type 0} (xs : List A) (y : A) (j : ℕ) (z : A) → slice_get (xs ++ y ∷ []) j ≡ Some z → (slice_get xs j ≡ Some z) ⊎ ((j ≡ length xs) × (y ≡ z))

@@ -1,9 +1,9 @@
 use Rattle.std.proofs.Common.{ap, sym, subst, length, [], ◌∷◌, List, ℕ, take, ◌+◌, arith, length-append}
 use Rattle.rt_modes.specs.declared.mode.Field.{Field}
 use Rattle.rt_sizes.specs.Sizes.{End}
-use Rattle.rt_layouts.proofs.Listing.{offset_more}
-use Rattle.rt_layouts.proofs.Offsets.{begins_there, ends_there, one_of}
-use Rattle.rt_layouts.proofs.layouts.offsets.Goals as goal
+use Rattle.rt_lower.proofs.Listing.{offset_more}
+use Rattle.rt_lower.proofs.Offsets.{begins_there, ends_there, one_of}
+use Rattle.rt_lower.proofs.layouts.offsets.Goals as goal
 
 pub loop-k-preserved : goal.loop-k-preserved
 loop-k-preserved c =

@@ -3,8 +3,8 @@ use Rattle.std.specs.Prelude.{slice_get}
 use Rattle.rt_tree_nodes.specs.declared.brick.Brick.{Brick}
 use Rattle.rt_sizes.specs.Capped.{AreSizes}
 use Rattle.rt_sizes.specs.Sizes.{Table}
-use Rattle.rt_layouts.specs.Layouts.{ItemsBegin}
-use Rattle.rt_layouts.proofs.layouts.items.Given as goal
+use Rattle.rt_lower.specs.Layouts.{ItemsBegin}
+use Rattle.rt_lower.proofs.layouts.items.Given as goal
 
 abbrev pub invariant-loop-brick : goal.invariant-loop-brick
 invariant-loop-brick l = record {

@@ -10,7 +10,7 @@ use Rattle.rt_sizes.specs.declared.size.Size.{Size}
 use Rattle.rt_sizes.specs.declared.size.Size.TheVariants as size
 use Rattle.rt_sizes.specs.Capped.{counted, behind}
 use Rattle.rt_sizes.specs.Sizes.{begins, and_then, Table, size as bytes_of, within, End, Begins, fields_end, field_end, offset_by, field_begins}
-use Rattle.rt_layouts.proofs.Listing.{told_is}
+use Rattle.rt_lower.proofs.Listing.{told_is}
 use Rattle.rt_sizes.proofs.Layers.{deeper, more_fields_end}
 
 abbrev size_of_mode : (ℕ → Option ℕ) → Field → Option ℕ

@@ -2,9 +2,9 @@ use Rattle.std.proofs.Common.{◌≡◌, ap, sym, ◌∙◌, subst, length, [], 
 use Rattle.std.proofs.lemmas.Option.{slice_get-get_or}
 use Rattle.std.specs.Prelude.{slice_get}
 use Rattle.rt_modes.specs.declared.mode.Field.{Field}
-use Rattle.rt_layouts.specs.Layouts.{ItemsBegin, AreOffsets}
-use Rattle.rt_layouts.proofs.Listing.{row_more}
-use Rattle.rt_layouts.proofs.layouts.items.Goals as goal
+use Rattle.rt_lower.specs.Layouts.{ItemsBegin, AreOffsets}
+use Rattle.rt_lower.proofs.Listing.{row_more}
+use Rattle.rt_lower.proofs.layouts.items.Goals as goal
 
 pub loop-brick-preserved : goal.loop-brick-preserved
 loop-brick-preserved c =

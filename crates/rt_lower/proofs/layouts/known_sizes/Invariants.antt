@@ -1,7 +1,7 @@
 use Rattle.std.proofs.Common.{◌≡◌, ℕ, Some, length}
 use Rattle.std.specs.Prelude.{slice_get}
 use Rattle.rt_sizes.specs.declared.size.Size.TheVariants as size
-use Rattle.rt_layouts.proofs.layouts.known_sizes.Given as goal
+use Rattle.rt_lower.proofs.layouts.known_sizes.Given as goal
 
 abbrev pub invariant-loop-size : goal.invariant-loop-size
 invariant-loop-size l = record {

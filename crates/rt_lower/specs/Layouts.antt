@@ -9,7 +9,7 @@ use Rattle.rt_tree_nodes.specs.declared.brick.Brick.{Brick}
 use Rattle.rt_tree_nodes.specs.declared.brick.BrickSort.{BrickSort}
 use Rattle.rt_tree_nodes.specs.declared.brick.BrickSort.TheVariants as sort
 use Rattle.rt_tree_nodes.specs.declared.brick.ModuleParts.{ModuleParts}
-use Rattle.rt_layouts.specs.declared.layouts.Layouts.{Layouts}
+use Rattle.rt_lower.specs.declared.layouts.Layouts.{Layouts}
 
 -- ---- what is looked up
 

@@ -5,8 +5,8 @@ ghost use Rattle.std.specs.Option.{option_copied};
 ghost use Rattle.rt_sizes.specs.Capped.{AreSizes};
 ghost use Rattle.rt_modes.specs.declared.mode.Mode.{out-Mode};
 ghost use Rattle.rt_sizes.specs.Sizes.{Table, End, begins};
-ghost use Rattle.rt_layouts.specs.Layouts.{table_of};
-ghost use Rattle.rt_layouts.specs.Layouts as layouts;
+ghost use Rattle.rt_lower.specs.Layouts.{table_of};
+ghost use Rattle.rt_lower.specs.Layouts as layouts;
 
 use rt_modes::{Field, Mode, RecordDef};
 use rt_sizes::{Size, data_size, record_sizes};

@@ -2,9 +2,9 @@ use Rattle.std.proofs.Common.{◌≡◌, ap, sym, ◌∙◌, subst, length, [], 
 use Rattle.std.proofs.lemmas.Option.{slice_get-get_or}
 use Rattle.std.specs.Prelude.{slice_get}
 use Rattle.rt_modes.specs.declared.mode.Field.{Field}
-use Rattle.rt_layouts.specs.Layouts.{FieldsBegin, AreOffsets}
-use Rattle.rt_layouts.proofs.Listing.{row_more}
-use Rattle.rt_layouts.proofs.layouts.fields.Goals as goal
+use Rattle.rt_lower.specs.Layouts.{FieldsBegin, AreOffsets}
+use Rattle.rt_lower.proofs.Listing.{row_more}
+use Rattle.rt_lower.proofs.layouts.fields.Goals as goal
 
 pub loop-record-preserved : goal.loop-record-preserved
 loop-record-preserved c =

@@ -1,6 +1,6 @@
-use Rattle.rt_layouts.specs.Layouts.{table_of}
-use Rattle.rt_layouts.proofs.Listing.{sized}
-use Rattle.rt_layouts.proofs.layouts.made.Goals as goal
+use Rattle.rt_lower.specs.Layouts.{table_of}
+use Rattle.rt_lower.proofs.Listing.{sized}
+use Rattle.rt_lower.proofs.layouts.made.Goals as goal
 
 pub returns-clause-items : goal.returns-clause-items
 returns-clause-items c = rw (c.items-2.view_is) (c.in_ok-items.ensures (table_of c.args.records.now) c.requires)
