@@ -4,14 +4,14 @@ use rt_tree_nodes::Rel;
 use rt_words::List;
 
 /// How much is read or written at a place: a BYTE, or a word of any other mode.
-#[derive(Clone, Copy, PartialEq, Eq, Debug)]
+#[derive(Clone, Copy, PartialEq, Eq)]
 pub enum Width {
     Byte,
     Word,
 }
 
 /// An item of the task's own supplied data. ERL is none of them: [`Ins::Recover`] and [`Ins::Restore`] alone write it.
-#[derive(Clone, Copy, PartialEq, Eq, Debug)]
+#[derive(Clone, Copy, PartialEq, Eq)]
 pub enum OwnItem {
     Ern,
     Erp,
@@ -20,7 +20,7 @@ pub enum OwnItem {
 }
 
 /// What is done with one word.
-#[derive(Clone, Copy, PartialEq, Eq, Debug)]
+#[derive(Clone, Copy, PartialEq, Eq)]
 pub enum Alter {
     /// The minus sign.
     Negate,
@@ -33,7 +33,7 @@ pub enum Alter {
 }
 
 /// What is done with two words, other than a division.
-#[derive(Clone, Copy, PartialEq, Eq, Debug)]
+#[derive(Clone, Copy, PartialEq, Eq)]
 pub enum Merge {
     Plus,
     Minus,
@@ -50,7 +50,7 @@ pub enum Merge {
 }
 
 /// Which part of a division is wanted.
-#[derive(Clone, Copy, PartialEq, Eq, Debug)]
+#[derive(Clone, Copy, PartialEq, Eq)]
 pub enum Division {
     /// `:/`.
     Quotient,
@@ -60,7 +60,7 @@ pub enum Division {
 
 /// A place whose address is known when the image is: an item of a data brick of the module, or a field of its record, through no
 /// REF and no subscript.
-#[derive(Debug, Drop)]
+#[derive(Drop)]
 pub struct Fixed {
     /// The number of the brick in the module.
     pub brick: u16,
@@ -74,7 +74,7 @@ pub struct Fixed {
 
 /// An instruction. Values are put on a stack and taken off it; locals are counted from 0, the parameters first. `more` leaves out
 /// so many instructions behind this one; `to` is the number of an instruction of the procedure, from 0.
-#[derive(Debug, Drop)]
+#[derive(Drop)]
 pub enum Ins {
     /// The frame of the procedure; first, and there alone.
     Enter {

@@ -4,7 +4,7 @@ use crate::ins::Ins;
 use rt_words::{List, Name};
 
 /// The intermediate code of a procedure.
-#[derive(Debug, Drop)]
+#[derive(Drop)]
 pub struct IProc {
     pub name: Name,
     /// How many items its text has, from its PROC to its ENDPROC.
@@ -13,7 +13,7 @@ pub struct IProc {
 }
 
 /// The intermediate code of a module: that of its own and ENT procedures, in the order of their bricks.
-#[derive(Debug, Drop)]
+#[derive(Drop)]
 pub struct IModule {
     pub procs: List<IProc>,
 }

@@ -13,7 +13,7 @@ use rt_work_state::PathNode;
 use std::alloc::Global;
 
 /// What a place is.
-#[derive(Debug, Drop)]
+#[derive(Drop)]
 pub enum Site {
     /// An item of the task's own data.
     Own(OwnItem),
