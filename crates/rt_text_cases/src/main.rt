@@ -1,24 +1,34 @@
-//! Cases of texts, up to the trees that the grammar gives: items, bodies, modules. The cases stand in the file `stdin` and what
-//! they give in `stdout`, which has each line that asks for something, ` =>` and the answer. What the lines mean is said at the
-//! head of `stdin`.
+//! Cases of texts: items, bodies and modules as the grammar has them; typed trees, faults with lines, frames, trees that no text
+//! gives; what systems do, step by step; intermediate code. The cases stand in the file `stdin` and what they give in `stdout`,
+//! which has each line that asks for something, ` =>` and the answer. What the lines mean is said at the head of `stdin`.
 #![tactic(auto)]
 
-mod bodies;
-mod declarations;
-mod expressions;
+mod case;
+mod code;
+mod expansion;
+mod line;
+mod modules;
 mod questions;
+mod stop;
 mod syntax;
-mod texts;
-mod written;
+mod systems;
 
-use questions::TextQuestions;
-use rt_case_texts::{Case, describe};
+use case::Case;
+use line::describe;
+use std::io;
 
-fn main(rt: HostRuntime) -> anyhow::Result<()> {
-    let mut case = Case::new(rt.alloc())?;
+fn main(rt: HostRuntime) -> io::Result<()> {
+    let mut case = Case::new(rt.alloc());
     for line in rt.lines(rt.alloc()) {
-        let answer = describe(rt.alloc(), &TextQuestions, &mut case, line?.as_str())?;
-        rt.print(answer.as_str())?;
+        tell(&rt, &mut case, line?.as_str())?;
     }
     Ok(())
+}
+
+fn tell<R: Print + AllocGlobal>(rt: &R, case: &mut Case, line: &str) -> io::Result<()> {
+    let mut out = String::new(rt.alloc());
+    match describe(rt.alloc(), case, line, &mut out) {
+        Ok(()) => rt.print(out.as_str()),
+        Err(_) => println!(rt; "out of memory"),
+    }
 }
