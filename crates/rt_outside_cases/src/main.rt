@@ -33,8 +33,13 @@ use std::io::Write;
 
 fn main(rt: HostRuntime) -> io::Result<()> {
     let mut state = State::new(rt.alloc());
+    tell_all(&rt, &mut state)
+}
+
+// The state is lent, so that no step that can fail has to let it go.
+fn tell_all(rt: &HostRuntime, state: &mut State) -> io::Result<()> {
     for line in rt.lines(rt.alloc()) {
-        tell(&rt, line?.as_str(), &mut state)?;
+        tell(rt, line?.as_str(), state)?;
     }
     Ok(())
 }

@@ -19,8 +19,13 @@ use std::io;
 
 fn main(rt: HostRuntime) -> io::Result<()> {
     let mut case = Case::new(rt.alloc());
+    tell_all(&rt, &mut case)
+}
+
+// The case is lent, so that no step that can fail has to let it go.
+fn tell_all(rt: &HostRuntime, case: &mut Case) -> io::Result<()> {
     for line in rt.lines(rt.alloc()) {
-        tell(&rt, &mut case, line?.as_str())?;
+        tell(rt, case, line?.as_str())?;
     }
     Ok(())
 }
