@@ -2,7 +2,7 @@
 use pdp_code::Reg;
 
 /// The registers R0 to R7, of which R6 is the stack pointer and R7 the program counter, and the flags N, Z, V and C.
-#[derive(Debug, Clone, Copy, PartialEq, Eq)]
+#[derive(Clone, Copy, PartialEq, Eq)]
 pub struct Regs {
     pub r: [u16; 8],
     pub n: bool,
@@ -37,7 +37,7 @@ pub struct Failure {
 }
 
 /// How an instruction ended.
-#[derive(Debug, Clone, Copy, PartialEq, Eq)]
+#[derive(Clone, Copy, PartialEq, Eq)]
 pub enum Stop {
     /// The next instruction may follow.
     Went,

@@ -5,7 +5,7 @@ use rt_syntax::{Body, WrittenMode};
 use rt_words::{Bytes, List, Name};
 
 /// A number in parentheses, which begins at its `(`.
-#[derive(Clone, Copy, Debug, PartialEq, Eq)]
+#[derive(Clone, Copy, PartialEq, Eq)]
 pub struct Parenthesized {
     pub number: u16,
     pub at: At,

@@ -7,7 +7,7 @@ use rt_words::Bytes;
 use thiserror::Error;
 
 /// A command, with the words after the first in their order. A file is named by the bytes of its word, one or more.
-#[derive(Debug, Drop)]
+#[derive(Drop)]
 pub enum Command {
     /// `go SYSTEM TICKS LIMIT NAME`, with a limit up to 4,000,000,000.
     Go(Bytes, Bytes, u64, Bytes),

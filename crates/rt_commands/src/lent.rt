@@ -12,7 +12,7 @@ use rt_words::{Bytes, Memory};
 use std::alloc::Global;
 
 /// The words of `go` or `run`: two files, a limit, and a third name.
-#[derive(Debug, Clone, Copy)]
+#[derive(Clone, Copy)]
 pub struct TimedWords<'a> {
     pub first: &'a str,
     pub second: &'a str,
@@ -21,7 +21,7 @@ pub struct TimedWords<'a> {
 }
 
 /// The words of a command after the first, in their order, lent from the command line.
-#[derive(Debug, Clone, Copy)]
+#[derive(Clone, Copy)]
 pub enum CommandWords<'a> {
     Go(TimedWords<'a>),
     Compile(&'a str, &'a str),

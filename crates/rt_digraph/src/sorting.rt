@@ -12,7 +12,7 @@ use rt_words::{List, Memory};
 use std::alloc::Global;
 
 /// What is found of the nodes that roots reach.
-#[derive(Debug, Drop)]
+#[derive(Drop)]
 pub enum Sorted {
     /// All of them, each behind its successors.
     Order(List<usize>),

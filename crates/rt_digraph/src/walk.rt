@@ -20,7 +20,7 @@ pub enum State {
 }
 
 /// A walk.
-#[derive(Debug, Drop)]
+#[derive(Drop)]
 pub struct Walk {
     /// Of each node.
     pub states: List<State>,

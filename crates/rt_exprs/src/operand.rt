@@ -5,7 +5,7 @@ use rt_modes::Mode;
 use rt_tree_nodes::{Place, Value};
 
 /// A mode of one word that a value may have.
-#[derive(Clone, Copy, Debug, PartialEq, Eq)]
+#[derive(Clone, Copy, PartialEq, Eq)]
 pub enum Base {
     Byte,
     Int,

@@ -9,7 +9,7 @@ use rt_modes::{Mode, ModeTable};
 use std::marker::Model;
 
 /// What a name stands for.
-#[derive(Debug, Drop)]
+#[derive(Drop)]
 pub enum Meaning {
     /// A MODE, by the number of its record.
     Mode(u16),

@@ -1,5 +1,5 @@
 /// The condition of a task.
-#[derive(Debug, Clone, Copy, PartialEq, Eq)]
+#[derive(Clone, Copy, PartialEq, Eq)]
 pub enum Condition {
     /// It may run.
     Ready,

@@ -1,7 +1,7 @@
 use rt_words::{Bytes, List, Name};
 
 /// The task of an image.
-#[derive(Debug, Drop)]
+#[derive(Drop)]
 pub struct ImageTask {
     pub name: Name,
     /// 1 to 255; a smaller one is more urgent.
@@ -15,7 +15,7 @@ pub struct ImageTask {
 }
 
 /// What the machine is loaded with, for one task.
-#[derive(Debug, Drop)]
+#[derive(Drop)]
 pub struct Image {
     /// The words of the code, from address 0.
     pub code: List<u16>,

@@ -14,7 +14,7 @@ use rt_words::{Bytes, Memory, Name};
 use std::alloc::Global;
 
 /// A module of the first form: a stack, and a procedure that puts bytes on the console.
-#[derive(Debug, Drop)]
+#[derive(Drop)]
 pub struct FirstModule {
     pub title: Name,
     /// The name of the stack brick.

@@ -13,7 +13,7 @@ use rt_words::{Bytes, Memory, Name};
 use std::alloc::Global;
 
 /// A system of the first form: one module and one task.
-#[derive(Debug, Drop)]
+#[derive(Drop)]
 pub struct FirstSystem {
     /// The module's file, bytes 33 to 126.
     pub file: Bytes,

@@ -1,7 +1,7 @@
 //! The words of `go`.
 
 /// The words of the command `go`.
-#[derive(Debug, Clone, Copy)]
+#[derive(Clone, Copy)]
 pub struct GoWords<'a> {
     pub system: &'a str,
     pub ticks: &'a str,

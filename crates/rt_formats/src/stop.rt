@@ -4,7 +4,7 @@ ghost use Rattle.std.specs.Prelude.{◌≡◌};
 ghost use Rattle.rt_formats.specs.declared.stop.Stop.TheVariants as stop;
 
 /// Why a format isn't read.
-#[derive(Clone, Copy, Debug, Drop)]
+#[derive(Clone, Copy, Drop)]
 pub enum Stop {
     Memory,
     /// How many bytes are left from the field on that is cut or out of range.

@@ -18,7 +18,7 @@ pub(crate) struct Measured<'a> {
 }
 
 /// How a place is come to.
-#[derive(Clone, Copy, Debug, PartialEq, Eq)]
+#[derive(Clone, Copy, PartialEq, Eq)]
 pub(crate) enum Address {
     /// It is a local.
     Local,

@@ -9,7 +9,7 @@ pub struct At {
 }
 
 /// A name and where it stands.
-#[derive(Debug, Drop)]
+#[derive(Drop)]
 pub struct Ident {
     pub name: Name,
     pub at: At,

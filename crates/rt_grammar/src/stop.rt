@@ -2,7 +2,7 @@ ghost use Rattle.std.specs.Prelude.{◌≡◌};
 ghost use Rattle.rt_grammar.specs.declared.stop.Stop.TheVariants as stop;
 
 /// Why a parser stops.
-#[derive(Debug, Drop)]
+#[derive(Drop)]
 pub enum Stop {
     Memory,
     /// How many items there are from the unfit one on.

@@ -14,7 +14,7 @@ use std::alloc::Global;
 const SUPPLIED_NUMBERS: u16 = 11;
 
 /// The bricks of a system, by module and declaration, and of each module the number of its first brick.
-#[derive(Debug, Drop)]
+#[derive(Drop)]
 pub struct Row {
     pub bricks: List<Proc>,
     pub firsts: List<usize>,

@@ -23,7 +23,7 @@ use rt_words::{Bytes, List, Memory};
 use std::alloc::Global;
 
 /// The needs found so far, in words: of bricks by their numbers, and the greatest of each class.
-#[derive(Debug, Drop)]
+#[derive(Drop)]
 pub struct Found {
     pub of: List<u32>,
     pub greatest: List<u32>,

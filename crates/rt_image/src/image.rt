@@ -8,7 +8,7 @@ use rt_words::{Bytes, List, Name};
 use std::marker::Model;
 
 /// A task of an image.
-#[derive(Debug, Drop)]
+#[derive(Drop)]
 pub struct ImageTask {
     pub name: Name,
     /// 1 to 255; a smaller one is more urgent.
@@ -23,7 +23,7 @@ pub struct ImageTask {
 
 /// The parts of an image. The code lies in the memory from address 0, the data behind it, then the block and the brick of
 /// each task.
-#[derive(Debug, Drop)]
+#[derive(Drop)]
 pub struct ImageParts {
     /// The words of the code.
     pub code: List<u16>,
@@ -35,7 +35,7 @@ pub struct ImageParts {
 }
 
 /// An image, whose parts keep their ranges at every moment. Contracts see its parts.
-#[derive(Debug, Drop)]
+#[derive(Drop)]
 pub struct Image {
     parts: ImageParts,
 }

@@ -3,7 +3,7 @@
 use rt_words::{List, Name};
 
 /// Where the parts of an image lie. A part is an address and a number of bytes.
-#[derive(Debug, Drop)]
+#[derive(Drop)]
 pub struct Map {
     pub code: (u16, u16),
     pub data: (u16, u16),
@@ -12,7 +12,7 @@ pub struct Map {
 }
 
 /// A task of a map.
-#[derive(Debug, Drop)]
+#[derive(Drop)]
 pub struct MapTask {
     pub name: Name,
     /// The address of its block.
@@ -26,7 +26,7 @@ pub struct MapTask {
 }
 
 /// A procedure of a map.
-#[derive(Debug, Drop)]
+#[derive(Drop)]
 pub struct MapProc {
     /// The title of its module.
     pub title: Name,

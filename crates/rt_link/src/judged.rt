@@ -17,7 +17,7 @@ use rt_words::List;
 use std::alloc::Global;
 
 /// What is known of a system that is linked.
-#[derive(Debug, Drop)]
+#[derive(Drop)]
 pub struct Judged {
     /// To what the bricks of the modules are bound.
     pub bindings: Bindings,

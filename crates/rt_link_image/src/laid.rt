@@ -16,7 +16,7 @@ use std::alloc::Global;
 pub const MEMORY: u64 = 57344;
 
 /// Where the parts of a system lie. Modules count from 1.
-#[derive(Debug, Drop)]
+#[derive(Drop)]
 pub struct Layout {
     /// The address past the code, at which the data begin.
     pub code_end: u16,

@@ -15,7 +15,7 @@ use rt_words::{List, Memory};
 use std::alloc::Global;
 
 /// Where a task lies.
-#[derive(Clone, Copy, Debug)]
+#[derive(Clone, Copy)]
 pub struct TaskPlace {
     /// The address of the words by which it enters its root.
     pub entry: u16,

@@ -3,7 +3,7 @@
 use rt_words::List;
 
 /// To what a brick is bound.
-#[derive(Clone, Copy, Debug, PartialEq, Eq)]
+#[derive(Clone, Copy, PartialEq, Eq)]
 pub enum Bound {
     /// To itself: an own brick, or an ENT one.
     Own,
@@ -14,7 +14,7 @@ pub enum Bound {
 }
 
 /// To what the bricks of a system are bound: one list for each module, with one binding for each brick, in their order.
-#[derive(Debug, Drop)]
+#[derive(Drop)]
 pub struct Bindings {
     pub of: List<List<Bound>>,
 }

@@ -5,7 +5,7 @@ use rt_words::List;
 use rt_work_state::ModuleStore;
 
 /// The rules, the store, and the number of bytes of the console that were taken.
-#[derive(Debug, Drop)]
+#[derive(Drop)]
 pub struct Common {
     pub rules: KeptRules,
     pub store: List<ModuleStore>,

@@ -11,7 +11,7 @@ use std::alloc::Global;
 use std::marker::Model;
 
 /// Contracts see the rules alone.
-#[derive(Debug, Drop)]
+#[derive(Drop)]
 pub struct KeptRules {
     rules: Rules,
     ends: List<State>,

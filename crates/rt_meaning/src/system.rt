@@ -24,7 +24,7 @@ pub struct Act {
 }
 
 /// How a task has ended.
-#[derive(Debug, Clone, Copy, PartialEq, Eq)]
+#[derive(Clone, Copy, PartialEq, Eq)]
 pub enum Ending {
     Over,
     Failed(u16),

@@ -18,7 +18,7 @@ pub enum Code {
 }
 
 /// Where a mode stands.
-#[derive(Clone, Copy, Debug, PartialEq, Eq)]
+#[derive(Clone, Copy, PartialEq, Eq)]
 pub enum Place {
     /// Not in another mode: the mode of a field or an item.
     Alone,

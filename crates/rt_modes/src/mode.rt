@@ -28,14 +28,14 @@ pub struct Field {
 }
 
 /// A record that a module declares.
-#[derive(Debug, Drop)]
+#[derive(Drop)]
 pub struct RecordDef {
     pub name: Name,
     pub fields: List<Field>,
 }
 
 /// The records of a module, in their order.
-#[derive(Debug, Drop)]
+#[derive(Drop)]
 pub struct ModeTable {
     pub records: List<RecordDef>,
 }

@@ -8,7 +8,7 @@ use rt_words::{Bytes, List, Name};
 use std::marker::Model;
 
 /// The parts of an object: what is compiled of a module.
-#[derive(Debug, Drop)]
+#[derive(Drop)]
 pub struct ObjectParts {
     pub title: Name,
     /// The MODEs of the module, in order.
@@ -22,7 +22,7 @@ pub struct ObjectParts {
 }
 
 /// An object, whose parts keep their ranges at every moment. Contracts see its parts.
-#[derive(Debug, Drop)]
+#[derive(Drop)]
 pub struct Object {
     parts: ObjectParts,
 }

@@ -6,7 +6,7 @@ use std::marker::Model;
 
 /// The calls of a form in memory: which of them fail, counted from 1, and how many were made and failed.
 /// Both numbers stand still at `u64::MAX`.
-#[derive(Debug, Drop)]
+#[derive(Drop)]
 pub struct CallCount {
     fails: List<u64>,
     made: u64,

@@ -12,7 +12,7 @@ use std::marker::Model;
 /// A sink in memory, which tells the bytes written.
 ///
 /// A put fails exactly where its number, counted from 1, is one of those given, or where no room is left.
-#[derive(Debug, Drop)]
+#[derive(Drop)]
 pub struct MemSink {
     written: Text,
     room: usize,

@@ -13,7 +13,7 @@ use std::marker::Model;
 /// A source in memory, which tells the bytes that are left.
 ///
 /// A call fails exactly where its number, counted from 1, is one of those given.
-#[derive(Debug, Drop)]
+#[derive(Drop)]
 pub struct MemSource {
     source: SureSource,
     calls: CallCount,

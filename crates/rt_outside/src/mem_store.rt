@@ -21,7 +21,7 @@ use std::marker::Model;
 /// given, or where a write doesn't fit the room that is left. A write takes as much room as its name and its
 /// content have bytes; one that fails takes none, and one over an older file gives none back. All memory for
 /// writes is taken by `new`: some 25 bytes for each byte of room.
-#[derive(Debug, Drop)]
+#[derive(Drop)]
 pub struct MemStore {
     shelf: Shelf,
     calls: CallCount,

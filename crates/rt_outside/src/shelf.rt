@@ -9,7 +9,7 @@ use std::alloc::Global;
 use std::marker::Model;
 
 /// Where a file stands in the log: its name from `from` to `middle`, its bytes from there to `to`.
-#[derive(Debug, Clone, Copy, Drop)]
+#[derive(Clone, Copy, Drop)]
 pub struct Place {
     pub from: usize,
     pub middle: usize,
@@ -21,7 +21,7 @@ pub struct Place {
 /// The room is the number of bytes that the log still takes. Each file with a name takes one byte of it or
 /// more, so the places of such files are never more than the room. A file whose name is empty may take none;
 /// its last place is kept apart.
-#[derive(Debug, Drop)]
+#[derive(Drop)]
 pub struct Shelf {
     given: List<(Name, Bytes)>,
     log: Text,

@@ -105,7 +105,7 @@ pub enum Mark {
 }
 
 /// What an item is.
-#[derive(Debug, Drop)]
+#[derive(Drop)]
 pub enum ItemKind {
     Word(Word),
     /// A name, in upper case.
@@ -118,7 +118,7 @@ pub enum ItemKind {
 }
 
 /// An item of a module's text.
-#[derive(Debug, Drop)]
+#[derive(Drop)]
 pub struct Item {
     pub kind: ItemKind,
     /// The line in which the item, or the use of the LET name that it comes from, begins, from 1.

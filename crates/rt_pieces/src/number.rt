@@ -7,7 +7,7 @@ ghost use Rattle.rt_pieces.specs.Pieces as pieces;
 use crate::bytes::{is_digit, is_letter_or_digit, upper};
 
 /// The base that BIN, OCT or HEX says.
-#[derive(Clone, Copy, Debug, PartialEq, Eq)]
+#[derive(Clone, Copy, PartialEq, Eq)]
 pub enum Base {
     Two,
     Eight,
@@ -15,7 +15,7 @@ pub enum Base {
 }
 
 /// BIN, OCT or HEX, whose digits are still to come: the word's line and place.
-#[derive(Clone, Copy, Debug)]
+#[derive(Clone, Copy)]
 pub struct Opened {
     pub base: Base,
     pub line: u32,

@@ -27,7 +27,7 @@ pub enum TextFault {
 }
 
 /// A form of the language that is left out.
-#[derive(Debug, Clone, Copy, PartialEq, Eq)]
+#[derive(Clone, Copy, PartialEq, Eq)]
 pub enum Form {
     /// LABEL other than that of RRERR's ERL.
     Label,
@@ -40,7 +40,7 @@ pub enum Form {
 }
 
 /// What a file is read as.
-#[derive(Debug, Clone, Copy, PartialEq, Eq)]
+#[derive(Clone, Copy, PartialEq, Eq)]
 pub enum FileKind {
     Module,
     Object,

@@ -6,7 +6,7 @@ ghost use Rattle.rt_rules.specs.Code.{kind_of};
 use crate::task::{State, TaskRow};
 
 // What tasks are looked for.
-#[derive(Debug, Clone, Copy)]
+#[derive(Clone, Copy)]
 pub enum Sought {
     Ready,
     Event(u8),

@@ -22,7 +22,7 @@ const WRONG_NUMBER: u16 = 5;
 ///
 /// At every moment there are 1 to 32 tasks with priorities above 0 and different stamps below the next one,
 /// 32 flags, and 32 owners, each 0 or the number of a task that hasn't ended.
-#[derive(Debug, Drop)]
+#[derive(Drop)]
 pub struct Rules {
     pub tasks: List<TaskRow>,
     pub flags: List<bool>,

@@ -16,7 +16,7 @@ pub enum State {
 }
 
 /// A task: its condition, its priority, and the stamp that it took when it last arrived or began to wait.
-#[derive(Debug, Clone, Copy, PartialEq, Eq)]
+#[derive(Clone, Copy, PartialEq, Eq)]
 pub struct TaskRow {
     pub state: State,
     pub priority: u8,

@@ -17,7 +17,7 @@ use rt_tasks::Running;
 const END_OF_INPUT: u16 = 4;
 
 /// How an instruction of the running task ended.
-#[derive(Debug, Clone, Copy, PartialEq, Eq)]
+#[derive(Clone, Copy, PartialEq, Eq)]
 pub enum Carried {
     /// It was carried out, and its task goes on.
     Went,
@@ -32,7 +32,7 @@ pub enum Carried {
 }
 
 /// What the console granted a TRAP.
-#[derive(Debug, Clone, Copy)]
+#[derive(Clone, Copy)]
 pub enum Granted {
     /// Nothing, and nothing was wanted.
     Nothing,

@@ -2,7 +2,7 @@ ghost use Rattle.std.specs.Prelude.{◌≡◌, ◌≢◌, ℕ, ◌<◌, MatchOpt
 ghost use Rattle.rt_run.specs.Marks.{mark_of, IsLeastMark, HasNoMark};
 
 // Which of the 256 priorities are marked: a bit for each, 64 in a word.
-#[derive(Debug, Drop)]
+#[derive(Drop)]
 pub struct Marks {
     pub words: [u64; 4],
 }

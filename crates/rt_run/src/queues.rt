@@ -8,7 +8,7 @@ use std::alloc::Global;
 use std::marker::Model;
 
 // A queue of task numbers for each priority from 0 to 255. Contracts see it as the list of the queues.
-#[derive(Debug, Drop)]
+#[derive(Drop)]
 pub struct Queues {
     queues: Vec<Queue>,
     taken: Marks,

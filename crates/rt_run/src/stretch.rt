@@ -15,7 +15,7 @@ use rt_rules::clock_and_stamp_stay_low;
 use rt_tasks::Running;
 
 /// What a task did while it ran: how its last instruction ended, how many were carried out, and their marks, added up.
-#[derive(Debug, Clone, Copy)]
+#[derive(Clone, Copy)]
 pub struct Stretch {
     pub carried: Carried,
     pub count: u64,

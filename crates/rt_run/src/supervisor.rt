@@ -15,7 +15,7 @@ use std::marker::Model;
 /// knows at any time the first that isn't empty.
 ///
 /// The ready tasks of a priority stand in its queue by their stamps, the least first. Only [`Supervisor::open`] takes memory.
-#[derive(Debug, Drop)]
+#[derive(Drop)]
 pub struct Supervisor {
     rules: Rules,
     queues: Queues,

@@ -8,7 +8,7 @@ use std::marker::Model;
 
 /// The ticks of a run: the gaps of those that are left, the instructions since the last one, and the placements of those
 /// taken, for which there is room from the start.
-#[derive(Debug, Drop)]
+#[derive(Drop)]
 pub struct Timetable {
     ticks: Ticks,
     next: usize,

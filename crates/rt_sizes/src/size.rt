@@ -8,7 +8,7 @@ ghost use Rattle.rt_sizes.specs.Sizes as sizes;
 use rt_modes::Mode;
 
 /// How many bytes a value has.
-#[derive(Clone, Copy, Debug, PartialEq, Eq)]
+#[derive(Clone, Copy, PartialEq, Eq)]
 pub enum Size {
     Bytes(u16),
     /// More than the 57,344 bytes that a record may have.

@@ -12,7 +12,7 @@ use crate::numbers::plain_number;
 const MOST_PRIORITY: u32 = 255;
 
 /// The words of a task's line. Its names are as written, in any mixture of cases.
-#[derive(Debug, Clone, Copy)]
+#[derive(Clone, Copy)]
 pub struct TaskLine<'a> {
     pub name: &'a [u8],
     pub root: &'a [u8],
@@ -21,7 +21,7 @@ pub struct TaskLine<'a> {
 }
 
 /// What a line says.
-#[derive(Debug, Clone, Copy)]
+#[derive(Clone, Copy)]
 pub enum SystemLine<'a> {
     Blank,
     /// A module's text, in this file.

@@ -7,7 +7,7 @@ use rt_words::{Bytes, List, Memory, Name};
 use std::alloc::Global;
 
 /// A module of a system.
-#[derive(Debug, Drop)]
+#[derive(Drop)]
 pub enum Entry {
     /// A module's text, in this file: 1 or more bytes from 33 to 126, as written.
     Module(Bytes),
@@ -30,7 +30,7 @@ impl Entry {
 }
 
 /// A task of a system. Its names are in upper case, and none of them is a reserved word.
-#[derive(Debug, Drop)]
+#[derive(Drop)]
 pub struct Task {
     pub name: Name,
     /// The procedure that is its root.
@@ -44,7 +44,7 @@ pub struct Task {
 }
 
 /// The entries and the tasks of a system, in the order of their lines.
-#[derive(Debug, Drop)]
+#[derive(Drop)]
 pub struct SystemParts {
     pub entries: List<Entry>,
     pub tasks: List<Task>,

@@ -29,7 +29,7 @@ const MOST_TASKS: usize = 32;
 
 /// A system: at most 64 entries, at most one of them the library, and 1 to 32 tasks with different names. Contracts
 /// see its entries and tasks.
-#[derive(Debug, Drop)]
+#[derive(Drop)]
 pub struct System {
     parts: SystemParts,
 }

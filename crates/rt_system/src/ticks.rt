@@ -25,7 +25,7 @@ const MOST_GAP_DIGITS: usize = 10;
 
 /// The gaps of a tick text: at most 200,000 of them, each at most 4,000,000,000. Contracts see them as a
 /// list.
-#[derive(Debug, Drop)]
+#[derive(Drop)]
 pub struct Ticks {
     gaps: List<u32>,
 }
@@ -54,7 +54,7 @@ impl Ticks {
 }
 
 /// What a line of a tick text says.
-#[derive(Debug, Clone, Copy)]
+#[derive(Clone, Copy)]
 pub enum TickLine {
     Blank,
     /// One tick after a gap.

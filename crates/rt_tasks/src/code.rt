@@ -4,7 +4,7 @@ ghost use Rattle.rt_tasks.specs.Traps.{mark_of};
 ghost use Rattle.rt_tasks.specs.Words.{code_marks};
 
 /// A word of the code, with its mark beside it, so that both are found by one look.
-#[derive(Debug, Clone, Copy)]
+#[derive(Clone, Copy)]
 pub struct Marked {
     pub word: u16,
     pub mark: u8,

@@ -34,7 +34,7 @@ pub struct TaskMemory {
 }
 
 /// Where a word that the task may use stands: in the data or in its own block and brick, by its place there, or nowhere.
-#[derive(Debug, Clone, Copy)]
+#[derive(Clone, Copy)]
 pub enum Found {
     InData(usize),
     InOwn(usize),

@@ -14,7 +14,7 @@ use std::alloc::Global;
 
 /// What the templates know of a procedure: its brick, how many parameters and locals it has, and the first byte of the words of each
 /// instruction.
-#[derive(Debug, Drop)]
+#[derive(Drop)]
 pub struct Layout {
     pub brick: u16,
     pub parameters: u16,

@@ -6,14 +6,14 @@ use pdp_code::{DoubleOp, Instr, Operand, Pointer, Reg, SingleOp, Size};
 use rt_object::Relocated;
 
 /// What a word waits for: the address of a brick, a string or a routine of the support code, and so many bytes.
-#[derive(Clone, Copy, Debug)]
+#[derive(Clone, Copy)]
 pub struct Hole {
     pub of: Relocated,
     pub offset: u16,
 }
 
 /// An instruction of the machine, how many visible steps it completes, and what the first word behind its own waits for.
-#[derive(Clone, Copy, Debug)]
+#[derive(Clone, Copy)]
 pub struct Line {
     pub instr: Instr,
     pub mark: u8,

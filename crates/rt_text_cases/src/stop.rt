@@ -4,7 +4,7 @@ use rt_words::Memory;
 use std::alloc::AllocError;
 
 /// Why a line isn't answered.
-#[derive(Debug, Clone, Copy, Drop)]
+#[derive(Clone, Copy, Drop)]
 pub enum Stop {
     /// Want of memory.
     Memory,

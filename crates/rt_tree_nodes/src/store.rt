@@ -11,14 +11,14 @@ pub struct Proc {
 }
 
 /// Where a shared location begins: a data brick by module and brick, or a string by module and number.
-#[derive(Clone, Copy, Debug, PartialEq, Eq)]
+#[derive(Clone, Copy, PartialEq, Eq)]
 pub enum Origin {
     Brick(u16, u16),
     Text(u16, u16),
 }
 
 /// A location of a run.
-#[derive(Debug, Drop)]
+#[derive(Drop)]
 pub enum Location {
     /// From where it begins on, through items, fields and elements by their numbers, each counted from 0.
     Shared(Origin, List<u16>),
@@ -27,7 +27,7 @@ pub enum Location {
 }
 
 /// What a location, a local or an operand holds.
-#[derive(Debug, Drop)]
+#[derive(Drop)]
 pub enum Datum {
     /// A BYTE, INT or FRAC.
     Word(u16),
@@ -46,7 +46,7 @@ pub enum Datum {
 
 /// The contents of a data brick, a string, a record or an array: a datum, or what its parts contain in their order.
 #[cycle(contents)]
-#[derive(Debug, Drop)]
+#[derive(Drop)]
 pub enum Contents {
     Datum(Datum),
     Parts(List<Contents>),

@@ -7,7 +7,7 @@ use std::marker::Model;
 
 /// A list under construction. Contracts see its elements, `items`, and a number, `spare`: so many
 /// further elements can be pushed without taking memory.
-#[derive(Debug, Drop)]
+#[derive(Drop)]
 pub struct ListBuilder<T> {
     items: Vec<T>,
 }

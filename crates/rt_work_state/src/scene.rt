@@ -9,7 +9,7 @@ use std::alloc::Global;
 use std::rc::Rc;
 
 /// Where a module's own numbers lead.
-#[derive(Debug, Drop)]
+#[derive(Drop)]
 pub struct Env {
     /// The number of the module, from 1.
     pub module: u16,

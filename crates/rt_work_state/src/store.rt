@@ -12,7 +12,7 @@ use std::alloc::Global;
 use std::mem::replace;
 
 /// What the bricks of a module contain, by their numbers, and its strings.
-#[derive(Debug, Drop)]
+#[derive(Drop)]
 pub struct ModuleStore {
     /// A brick that isn't a data brick of its own has no parts.
     pub bricks: List<Contents>,
