@@ -2,7 +2,7 @@
 use pdp_code::Reg;
 
 /// The registers R0 to R7, of which R6 is the stack pointer and R7 the program counter, and the flags N, Z, V and C.
-#[derive(Clone, Copy, PartialEq, Eq)]
+#[derive(Clone, Copy)]
 pub struct Regs {
     pub r: [u16; 8],
     pub n: bool,
@@ -12,7 +12,7 @@ pub struct Regs {
 }
 
 /// Why the memory refuses an access, with its address.
-#[derive(Debug, Clone, Copy, PartialEq, Eq)]
+#[derive(Debug, Clone, Copy)]
 pub enum Refused {
     Odd(u16),
     Access(u16),

@@ -5,14 +5,14 @@ use rt_syntax::{Body, WrittenMode};
 use rt_words::{Bytes, List, Name};
 
 /// A number in parentheses, which begins at its `(`.
-#[derive(Clone, Copy, PartialEq, Eq)]
+#[derive(Clone, Copy)]
 pub struct Parenthesized {
     pub number: u16,
     pub at: At,
 }
 
 /// The sign before a number.
-#[derive(Clone, Copy, Debug, PartialEq, Eq)]
+#[derive(Clone, Copy, Debug)]
 pub enum Sign {
     Plus,
     Minus,
@@ -108,7 +108,7 @@ pub struct ProcedureBrick {
 }
 
 /// How a brick of another module is named.
-#[derive(Clone, Copy, Debug, PartialEq, Eq)]
+#[derive(Clone, Copy, Debug)]
 pub enum Import {
     /// `EXT`: an entry of another module.
     External,

@@ -14,7 +14,7 @@ use rt_words::Memory;
 use std::alloc::Global;
 
 /// What a name declares.
-#[derive(Clone, Copy, PartialEq, Eq)]
+#[derive(Clone, Copy)]
 pub enum Declared {
     /// A MODE, by the number of its record.
     Record(u16),

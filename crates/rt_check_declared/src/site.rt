@@ -1,5 +1,5 @@
 /// Where a mode is written.
-#[derive(Clone, Copy, PartialEq, Eq)]
+#[derive(Clone, Copy)]
 pub enum Site {
     /// As that of a field of a record, or of an item of a data brick.
     Item,

@@ -10,7 +10,7 @@ use thiserror::Error;
 
 /// The first fault of an expression or of a module: where it stands, and what it is. Expressions have the faults 20 to 25
 /// alone, and those of the declarations that they name.
-#[derive(Clone, Copy, Debug, PartialEq, Eq, Drop, Error)]
+#[derive(Clone, Copy, Debug, Drop, Error)]
 pub enum CheckFault {
     #[error("out of memory")]
     Memory,

@@ -26,7 +26,7 @@ pub enum Command {
 }
 
 /// Why words aren't read.
-#[derive(Debug, Clone, Copy, PartialEq, Eq, Drop, Error)]
+#[derive(Debug, Clone, Copy, Drop, Error)]
 pub enum WordFault {
     /// No command has these words.
     #[error("no command has these words")]

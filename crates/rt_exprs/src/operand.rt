@@ -5,7 +5,7 @@ use rt_modes::Mode;
 use rt_tree_nodes::{Place, Value};
 
 /// A mode of one word that a value may have.
-#[derive(Clone, Copy, PartialEq, Eq)]
+#[derive(Clone, Copy)]
 pub enum Base {
     Byte,
     Int,
@@ -13,7 +13,7 @@ pub enum Base {
 }
 
 /// Whether the reference of a place may be taken.
-#[derive(Clone, Copy, Debug, PartialEq, Eq)]
+#[derive(Clone, Copy, Debug)]
 pub enum Standing {
     /// In an own, ENT or EXT data brick, in a string, or where a reference leads.
     Shared,

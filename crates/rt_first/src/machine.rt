@@ -15,7 +15,7 @@ pub struct Machine {
 }
 
 /// What an instruction asked of the supervisor.
-#[derive(Clone, Copy, PartialEq, Eq)]
+#[derive(Clone, Copy)]
 pub enum Asked {
     /// Nothing that is left to do.
     Went,
@@ -26,7 +26,7 @@ pub enum Asked {
 }
 
 /// How a run came to its end.
-#[derive(Clone, Copy, PartialEq, Eq)]
+#[derive(Clone, Copy)]
 pub enum Ending {
     /// The task has ended, or the limit is reached.
     Finished,

@@ -1,5 +1,5 @@
 /// Why `go` refuses a system, for a named file.
-#[derive(Debug, Clone, Copy, PartialEq, Eq)]
+#[derive(Debug, Clone, Copy)]
 pub enum Refusal {
     /// The module isn't of the form that is taken: `FAULT 11 file 25 LINE 1 FORM 9`.
     LeftOut,

@@ -18,7 +18,7 @@ pub(crate) struct Measured<'a> {
 }
 
 /// How a place is come to.
-#[derive(Clone, Copy, PartialEq, Eq)]
+#[derive(Clone, Copy)]
 pub(crate) enum Address {
     /// It is a local.
     Local,

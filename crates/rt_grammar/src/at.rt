@@ -2,7 +2,7 @@ use rt_words::Name;
 
 /// Where something begins: the number of its first item, counted from 0 over the whole list that was
 /// handed in, and that item's line.
-#[derive(Clone, Copy, Debug, PartialEq, Eq)]
+#[derive(Clone, Copy, Debug)]
 pub struct At {
     pub item: u16,
     pub line: u32,

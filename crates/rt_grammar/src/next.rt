@@ -1,7 +1,7 @@
 use rt_pieces::{Mark, Word};
 
 /// What comes next, as far as the grammar looks at it.
-#[derive(Clone, Copy, PartialEq, Eq)]
+#[derive(Clone, Copy)]
 pub enum Next {
     End,
     Word(Word),

@@ -4,14 +4,14 @@ use rt_tree_nodes::Rel;
 use rt_words::List;
 
 /// How much is read or written at a place: a BYTE, or a word of any other mode.
-#[derive(Clone, Copy, PartialEq, Eq)]
+#[derive(Clone, Copy)]
 pub enum Width {
     Byte,
     Word,
 }
 
 /// An item of the task's own supplied data. ERL is none of them: [`Ins::Recover`] and [`Ins::Restore`] alone write it.
-#[derive(Clone, Copy, PartialEq, Eq)]
+#[derive(Clone, Copy)]
 pub enum OwnItem {
     Ern,
     Erp,
@@ -20,7 +20,7 @@ pub enum OwnItem {
 }
 
 /// What is done with one word.
-#[derive(Clone, Copy, PartialEq, Eq)]
+#[derive(Clone, Copy)]
 pub enum Alter {
     /// The minus sign.
     Negate,
@@ -33,7 +33,7 @@ pub enum Alter {
 }
 
 /// What is done with two words, other than a division.
-#[derive(Clone, Copy, PartialEq, Eq)]
+#[derive(Clone, Copy)]
 pub enum Merge {
     Plus,
     Minus,
@@ -50,7 +50,7 @@ pub enum Merge {
 }
 
 /// Which part of a division is wanted.
-#[derive(Clone, Copy, PartialEq, Eq)]
+#[derive(Clone, Copy)]
 pub enum Division {
     /// `:/`.
     Quotient,

@@ -3,7 +3,7 @@
 use rt_words::List;
 
 /// To what a brick is bound.
-#[derive(Clone, Copy, PartialEq, Eq)]
+#[derive(Clone, Copy)]
 pub enum Bound {
     /// To itself: an own brick, or an ENT one.
     Own,

@@ -14,7 +14,7 @@ use rt_work_state::{Item, Scene, Stack};
 use std::alloc::Global;
 
 /// A task of a system: the module, from 1, and the brick of its root, and its priority.
-#[derive(Clone, Copy, PartialEq, Eq)]
+#[derive(Clone, Copy)]
 pub struct SourceTask {
     pub root: (u16, u16),
     pub priority: u8,

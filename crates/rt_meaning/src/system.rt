@@ -24,7 +24,7 @@ pub struct Act {
 }
 
 /// How a task has ended.
-#[derive(Clone, Copy, PartialEq, Eq)]
+#[derive(Clone, Copy)]
 pub enum Ending {
     Over,
     Failed(u16),

@@ -5,7 +5,7 @@ ghost use Rattle.rt_words.specs.Causes.{Rose};
 use thiserror::Error;
 
 /// A write or a put failed, and the count of faults rose.
-#[derive(Debug, Clone, Copy, PartialEq, Eq, Drop, Error)]
+#[derive(Debug, Clone, Copy, Drop, Error)]
 #[error("the write failed")]
 pub struct Failed;
 

@@ -3,7 +3,7 @@ ghost use Rattle.rt_words.specs.Causes.{Rose};
 ghost use Rattle.rt_outside.specs.Streams.{TakesNext, KeepsEnd};
 
 /// What a source answers.
-#[derive(Clone, Copy, PartialEq, Eq, Drop)]
+#[derive(Clone, Copy, Drop)]
 pub enum Next {
     /// The next byte, which is taken.
     Byte(u8),

@@ -10,7 +10,7 @@ use thiserror::Error;
 pub const LONGEST_FILE: usize = 4_194_304;
 
 /// Why a file wasn't read.
-#[derive(Debug, Clone, Copy, PartialEq, Eq, Drop, Error)]
+#[derive(Debug, Clone, Copy, Drop, Error)]
 pub enum StoreError {
     /// The store tells its files, and there is none of this name.
     #[error("there is no such file")]

@@ -7,7 +7,7 @@ ghost use Rattle.rt_pieces.specs.Pieces as pieces;
 use crate::bytes::{is_digit, is_letter_or_digit, upper};
 
 /// The base that BIN, OCT or HEX says.
-#[derive(Clone, Copy, PartialEq, Eq)]
+#[derive(Clone, Copy)]
 pub enum Base {
     Two,
     Eight,

@@ -8,7 +8,7 @@ use crate::bytes::{in_string, is_blank, is_digit, is_letter, is_letter_or_digit,
 use crate::mark::{mark_of_one, mark_of_three, mark_of_two};
 
 /// What begins a text.
-#[derive(Clone, Copy, PartialEq, Eq)]
+#[derive(Clone, Copy)]
 pub enum Step {
     Finish,
     /// So many bytes of layout or a comment, with so many line ends.

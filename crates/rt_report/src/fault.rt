@@ -4,7 +4,7 @@ use pdp_core::Kind;
 use rt_words::{Bytes, List, Name};
 
 /// A fault of a module's text that its line tells.
-#[derive(Debug, Clone, Copy, PartialEq, Eq)]
+#[derive(Debug, Clone, Copy)]
 pub enum TextFault {
     BadCharacter,
     NumberTooLarge,
@@ -27,7 +27,7 @@ pub enum TextFault {
 }
 
 /// A form of the language that is left out.
-#[derive(Clone, Copy, PartialEq, Eq)]
+#[derive(Clone, Copy)]
 pub enum Form {
     /// LABEL other than that of RRERR's ERL.
     Label,
@@ -40,7 +40,7 @@ pub enum Form {
 }
 
 /// What a file is read as.
-#[derive(Clone, Copy, PartialEq, Eq)]
+#[derive(Clone, Copy)]
 pub enum FileKind {
     Module,
     Object,

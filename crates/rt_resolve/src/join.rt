@@ -13,7 +13,7 @@ use rt_work_state::{CondNode, LabelsNode, SeqNode, StmtNode, TermNode, TermsNode
 use std::alloc::Global;
 
 /// How conditions are joined.
-#[derive(Clone, Copy, Debug, PartialEq, Eq)]
+#[derive(Clone, Copy, Debug)]
 pub enum Joins {
     And,
     Or,

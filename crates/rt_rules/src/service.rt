@@ -22,7 +22,7 @@ pub enum Svc {
 }
 
 /// What a service comes to.
-#[derive(Clone, Copy, PartialEq, Eq)]
+#[derive(Clone, Copy)]
 pub enum Outcome {
     /// The task goes on, with the answer of [`Svc::Clock`] or [`Svc::TaskNo`], and with 0 after any other service.
     Go(u16),

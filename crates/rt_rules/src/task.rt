@@ -1,5 +1,5 @@
 /// The condition of a task.
-#[derive(Debug, Clone, Copy, PartialEq, Eq)]
+#[derive(Debug, Clone, Copy)]
 pub enum State {
     /// It may run.
     Ready,
@@ -16,7 +16,7 @@ pub enum State {
 }
 
 /// A task: its condition, its priority, and the stamp that it took when it last arrived or began to wait.
-#[derive(Clone, Copy, PartialEq, Eq)]
+#[derive(Clone, Copy)]
 pub struct TaskRow {
     pub state: State,
     pub priority: u8,

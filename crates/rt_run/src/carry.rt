@@ -17,7 +17,7 @@ use rt_tasks::Running;
 const END_OF_INPUT: u16 = 4;
 
 /// How an instruction of the running task ended.
-#[derive(Clone, Copy, PartialEq, Eq)]
+#[derive(Clone, Copy)]
 pub enum Carried {
     /// It was carried out, and its task goes on.
     Went,

@@ -6,7 +6,7 @@ use rt_rules::{Outcome, Svc};
 use rt_tasks::Running;
 
 /// What an instruction asks for.
-#[derive(Clone, Copy, PartialEq, Eq)]
+#[derive(Clone, Copy)]
 pub enum Request {
     Nothing,
     /// The next byte of the console.
@@ -18,7 +18,7 @@ pub enum Request {
 }
 
 /// What a task gets of a service.
-#[derive(Clone, Copy, PartialEq, Eq)]
+#[derive(Clone, Copy)]
 pub enum Answer {
     /// Nothing.
     Silence,

@@ -4,7 +4,7 @@ use rt_grammar::{At, Ident};
 use rt_words::{Boxed, Bytes, List, Name};
 
 /// A monadic operator.
-#[derive(Clone, Copy, Debug, PartialEq, Eq)]
+#[derive(Clone, Copy, Debug)]
 pub enum Op1 {
     Plus,
     Minus,
@@ -17,7 +17,7 @@ pub enum Op1 {
 }
 
 /// A dyadic operator.
-#[derive(Clone, Copy, Debug, PartialEq, Eq)]
+#[derive(Clone, Copy, Debug)]
 pub enum Op2 {
     Sll,
     Srl,
@@ -34,7 +34,7 @@ pub enum Op2 {
 }
 
 /// A relation of a comparison.
-#[derive(Clone, Copy, Debug, PartialEq, Eq)]
+#[derive(Clone, Copy, Debug)]
 pub enum Rel {
     Equal,
     Unequal,

@@ -6,7 +6,7 @@ ghost use Rattle.rt_system.specs.declared.fault.LineFault.TheVariants as fault;
 use thiserror::Error;
 
 /// Why a text isn't read. Lines are numbered from 1.
-#[derive(Debug, Clone, Copy, PartialEq, Eq, Drop, Error)]
+#[derive(Debug, Clone, Copy, Drop, Error)]
 pub enum LineFault {
     #[error("out of memory")]
     Memory,

@@ -3,7 +3,7 @@ ghost use Rattle.std.specs.Prelude.{◌≡◌};
 ghost use Rattle.rt_templates.specs.Layouts.{routine_number};
 
 /// A routine of the support code.
-#[derive(Clone, Copy, PartialEq, Eq)]
+#[derive(Clone, Copy)]
 pub enum Routine {
     Rrin,
     Rrout,

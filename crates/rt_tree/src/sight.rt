@@ -31,7 +31,7 @@ pub(crate) struct Sight<'a> {
 }
 
 /// The numbers of the next label and of the next local.
-#[derive(Clone, Copy, PartialEq, Eq)]
+#[derive(Clone, Copy)]
 pub(crate) struct Next {
     pub(crate) label: u32,
     pub(crate) local: usize,

@@ -8,7 +8,7 @@ use rt_words::Boxed;
 
 /// Where a mode stands: as that of a field or item, behind REF or as that of an element, or as that of a parameter, a
 /// result or a local.
-#[derive(Clone, Copy, Debug, PartialEq, Eq)]
+#[derive(Clone, Copy, Debug)]
 pub enum Standing {
     Alone,
     Inside,

@@ -1,7 +1,7 @@
 //! The operators and relations of the typed tree.
 
 /// A monadic operator.
-#[derive(Clone, Copy, Debug, PartialEq, Eq)]
+#[derive(Clone, Copy, Debug)]
 pub enum Op1 {
     Plus,
     Minus,
@@ -13,7 +13,7 @@ pub enum Op1 {
 }
 
 /// A dyadic operator. The product of FRACs is one of its own.
-#[derive(Clone, Copy, Debug, PartialEq, Eq)]
+#[derive(Clone, Copy, Debug)]
 pub enum Op2 {
     Sll,
     Srl,
@@ -31,7 +31,7 @@ pub enum Op2 {
 }
 
 /// A relation of a comparison.
-#[derive(Clone, Copy, Debug, PartialEq, Eq)]
+#[derive(Clone, Copy, Debug)]
 pub enum Rel {
     Equal,
     Unequal,

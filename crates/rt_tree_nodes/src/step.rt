@@ -1,7 +1,7 @@
 //! The visible steps of a task.
 
 /// A kind of visible step. An error is one that ends the task, with its number.
-#[derive(Clone, Copy, PartialEq, Eq)]
+#[derive(Clone, Copy)]
 pub enum Step {
     Read,
     Write,

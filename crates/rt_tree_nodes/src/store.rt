@@ -11,7 +11,7 @@ pub struct Proc {
 }
 
 /// Where a shared location begins: a data brick by module and brick, or a string by module and number.
-#[derive(Clone, Copy, PartialEq, Eq)]
+#[derive(Clone, Copy)]
 pub enum Origin {
     Brick(u16, u16),
     Text(u16, u16),

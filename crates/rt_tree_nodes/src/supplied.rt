@@ -11,7 +11,7 @@ use rt_words::Boxed;
 
 /// The numbers of the first bricks of a module that declare the task's own error data (RRERR) and its streams (RRSIO) as
 /// they are supplied, where there are any.
-#[derive(Clone, Copy, Debug, PartialEq, Eq)]
+#[derive(Clone, Copy, Debug)]
 pub struct Supplied {
     pub errors: Option<usize>,
     pub streams: Option<usize>,

@@ -1,7 +1,7 @@
 // What a division gives, and the kinds of shift.
 
 /// What the division of two signed words gives.
-#[derive(Clone, Copy, PartialEq, Eq)]
+#[derive(Clone, Copy)]
 pub enum Quotient {
     /// The quotient, rounded towards zero, and the remainder, which has the dividend's sign.
     Ok(u16, u16),
@@ -12,7 +12,7 @@ pub enum Quotient {
 }
 
 /// The shift operators.
-#[derive(Clone, Copy, PartialEq, Eq)]
+#[derive(Clone, Copy)]
 pub enum Shift {
     /// To the left; zeros come in.
     Sll,

@@ -2,7 +2,7 @@ use std::alloc::AllocError;
 use thiserror::Error;
 
 /// Memory was wanted and isn't there.
-#[derive(Debug, Clone, Copy, PartialEq, Eq, Drop, Error)]
+#[derive(Debug, Clone, Copy, Drop, Error)]
 #[error("out of memory")]
 pub struct Memory;
 

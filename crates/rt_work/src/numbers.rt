@@ -8,7 +8,7 @@ use rt_tree::{Op1, Op2, Rel};
 use rt_words::{Quotient, Shift, frac_mul, sdiv, shift, signed, wrap_add, wrap_mul, wrap_sub};
 
 /// What a division gives: a value, or the number of a recoverable error.
-#[derive(Clone, Copy, PartialEq, Eq)]
+#[derive(Clone, Copy)]
 pub enum Share {
     Gives(u16),
     Fails(u16),

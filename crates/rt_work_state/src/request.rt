@@ -3,7 +3,7 @@
 use rt_rules::Svc;
 
 /// What a step asks for.
-#[derive(Clone, Copy, PartialEq, Eq)]
+#[derive(Clone, Copy)]
 pub enum Request {
     /// The step is no service.
     Nothing,
