@@ -10,8 +10,8 @@ use Rattle.rt_graph.specs.Tasks.{IsFirstEntry, AreRoots}
 use Rattle.rt_link.specs.declared.judged.Judged.{Judged}
 use Rattle.rt_link.specs.VerdictLaws.{AreStacks, EachHasAStack}
 use Rattle.rt_link.specs.Verdict.{IsJudged}
-use Rattle.rt_link_image.specs.Imaged.{AreStackBricks}
-use Rattle.rt_link_image.specs.Laws.{EntriesAreStacks}
+use Rattle.rt_link.specs.Imaged.{AreStackBricks}
+use Rattle.rt_link.specs.ImageLaws.{EntriesAreStacks}
 
 -- two lists of one length: what stands in one has its fellow in the other
 pub fellow : {A B : Type 0} (xs : List A) (ys : List B) (i : ℕ) (x : A) → length ys ≡ length xs → slice_get xs i ≡ Some x → (y : B) × (slice_get ys i ≡ Some y)

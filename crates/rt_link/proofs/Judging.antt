@@ -11,7 +11,7 @@ use Rattle.rt_graph.specs.declared.fault.GraphFault.TheVariants as graph
 use Rattle.rt_graph.specs.Needs.{AreNeeds}
 use Rattle.rt_graph.specs.Reach.{IsCallOrder}
 use Rattle.rt_graph.specs.Tasks.{AreRoots, AreFound, IsSmall}
-use Rattle.rt_link_image.specs.Room.{room}
+use Rattle.rt_link.specs.Room.{room}
 use Rattle.rt_link.specs.declared.fault.LinkFault.{LinkFault}
 use Rattle.rt_link.specs.declared.fault.LinkFault.TheVariants as fault
 use Rattle.rt_link.specs.Faults.{of_graph}

@@ -5,3 +5,11 @@ mod Found
 mod Rooted
 mod TaskLines
 mod Verdicts
+pub mod Summed
+pub mod Looked
+pub mod Followed
+pub mod Routines
+pub mod Inside
+pub mod Long
+pub mod Ranged
+pub mod Placed

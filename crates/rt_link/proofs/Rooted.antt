@@ -18,7 +18,7 @@ use Rattle.rt_graph.specs.Needs.{counted, HasNeed}
 use Rattle.rt_graph.specs.Scans.{told_need}
 use Rattle.rt_graph.specs.Tasks.{IsEntry, IsFirstEntry, IsRootNamed}
 use Rattle.rt_graph.proofs.Stacked.{told_is}
-use Rattle.rt_link_image.specs.Room.{bricks_in, held, stack_in, stack_words, task_bytes}
+use Rattle.rt_link.specs.Room.{bricks_in, held, stack_in, stack_words, task_bytes}
 use Rattle.rt_link.specs.declared.judged.Judged.{Judged}
 use Rattle.rt_link.specs.VerdictLaws.{EachHasAStack}
 use Rattle.rt_link.specs.Verdict.{IsJudged}

@@ -11,8 +11,8 @@ use Rattle.rt_digraph.proofs.Lists.{no_element, some_is}
 use Rattle.rt_graph.specs.Tasks.{IsStackNamed}
 use Rattle.rt_link.specs.declared.judged.Judged.{Judged}
 use Rattle.rt_link.specs.VerdictLaws.{AreStacks, EachHasAStack}
-use Rattle.rt_link_image.specs.Imaged.{image_task, image_tasks}
-use Rattle.rt_link_image.specs.Mapped.{map_task, map_tasks}
+use Rattle.rt_link.specs.Imaged.{image_task, image_tasks}
+use Rattle.rt_link.specs.Mapped.{map_task, map_tasks}
 use Rattle.rt_link.specs.Linked.{IsLinked}
 use Rattle.rt_link.specs.Laws.{IsOfLine, IsMappedAs, AreOneByOne, HasTasksOfLines}
 use Rattle.rt_link.proofs.Bricks.{fellow, the_roots, the_stacks}

@@ -16,14 +16,14 @@ use Rattle.rt_graph.specs.Reach.{IsRightCycle}
 use Rattle.rt_graph.specs.Tasks.{AreRoots}
 use Rattle.rt_graph.proofs.Tasked.{root_to}
 use Rattle.rt_graph.proofs.Unique.{one_need}
-use Rattle.rt_link_image.specs.Room.{room}
+use Rattle.rt_link.specs.Room.{room}
 use Rattle.rt_link.specs.declared.fault.LinkFault.{LinkFault}
 use Rattle.rt_link.specs.declared.fault.LinkFault.TheVariants as fault
 use Rattle.rt_link.specs.declared.judged.Judged.{Judged}
 use Rattle.rt_link.specs.VerdictLaws.{EachHasAStack}
 use Rattle.rt_link.specs.Verdict.{stack_bricks, IsMatched, IsJudged, IsRefusedBy, IsFault}
-use Rattle.rt_link_image.specs.Imaged.{image_of}
-use Rattle.rt_link_image.specs.Mapped.{map_of}
+use Rattle.rt_link.specs.Imaged.{image_of}
+use Rattle.rt_link.specs.Mapped.{map_of}
 use Rattle.rt_link.specs.Laws.{EachIsLinked, IsGraphRefusal, IsRefusal}
 use Rattle.rt_link.specs.Linked.{AreRootNeeds, IsLinked}
 use Rattle.rt_link.specs.Needs.{root_words}

@@ -4,3 +4,14 @@ pub mod VerdictLaws
 pub mod Needs
 pub mod Linked
 pub mod Laws
+pub mod Room
+pub mod Addresses
+pub mod Rows
+pub mod Tables
+pub mod Parts
+pub mod Named
+pub mod Relocated
+pub mod Imaged
+pub mod Ready
+pub mod Mapped
+pub mod ImageLaws

@@ -9,8 +9,8 @@ use Rattle.rt_image.specs.declared.map.Map.{Map}
 use Rattle.rt_graph.specs.Needs.{HasNeed}
 use Rattle.rt_link.specs.declared.judged.Judged.{Judged}
 use Rattle.rt_link.specs.Verdict.{IsJudged}
-use Rattle.rt_link_image.specs.Imaged.{image_of}
-use Rattle.rt_link_image.specs.Mapped.{map_of}
+use Rattle.rt_link.specs.Imaged.{image_of}
+use Rattle.rt_link.specs.Mapped.{map_of}
 
 -- each root needs just so many words
 pub record AreRootNeeds (objects : List ObjectParts) (of : List (List Bound)) (roots : List Proc) (words : List ℕ) : Type 0 where

@@ -15,7 +15,7 @@ use Rattle.rt_graph.specs.Nodes.{with_one}
 use Rattle.rt_graph.specs.Reach.{IsCallOrder, IsRightCycle}
 use Rattle.rt_graph.specs.Scans.{entry_named}
 use Rattle.rt_graph.specs.Tasks.{AreRoots, IsFirstBad, HaveEnough, IsFirstSmall}
-use Rattle.rt_link_image.specs.Room.{room}
+use Rattle.rt_link.specs.Room.{room}
 use Rattle.rt_link.specs.declared.fault.LinkFault.{LinkFault}
 use Rattle.rt_link.specs.declared.fault.LinkFault.TheVariants as fault
 use Rattle.rt_link.specs.declared.judged.Judged.{Judged}

@@ -1,14 +1,14 @@
 //! The verdict.
 
 ghost use Rattle.std.specs.Prelude.{◌≡◌, ◌<◌, ◌≤◌, length, IfErr, OnOk, IfOk};
-ghost use Rattle.rt_link_image.specs.Room as layout;
+ghost use Rattle.rt_link.specs.Room as layout;
 ghost use Rattle.rt_link.specs.Verdict.{memory, IsJudged, IsFault};
 ghost use Rattle.rt_link.specs.declared.fault.LinkFault.TheVariants as fault;
 
 use crate::fault::LinkFault;
 use crate::stacks::stack_bricks;
+use crate::{MEMORY, room};
 use rt_graph::{Order, check_stacks, needs, order, roots};
-use rt_link_image::{MEMORY, room};
 use rt_match::{Bindings, match_all};
 use rt_object::Object;
 use rt_system::System;

@@ -3,17 +3,17 @@
 ghost use Rattle.std.specs.Prelude.{◌≡◌, ◌≤◌, length, IfOk, IfErr};
 ghost use Rattle.rt_link.specs.Linked.{IsLinked};
 ghost use Rattle.rt_link.specs.Needs.{root_words};
-ghost use Rattle.rt_link_image.specs.Imaged.{AreStackBricks, image_of};
-ghost use Rattle.rt_link_image.specs.Mapped.{map_of};
-ghost use Rattle.rt_link_image.specs.Ready.{AreReady};
+ghost use Rattle.rt_link.specs.Imaged.{AreStackBricks, image_of};
+ghost use Rattle.rt_link.specs.Mapped.{map_of};
+ghost use Rattle.rt_link.specs.Ready.{AreReady};
 ghost use Rattle.rt_link.specs.Verdict.{IsJudged, IsFault};
 
 use crate::fault::LinkFault;
 use crate::judged::{Judged, judge};
 use crate::needs::root_words;
 use crate::verdict_laws::each_has_a_stack;
+use crate::{Layout, Linking, entries_are_stacks, image, image_map};
 use rt_image::{Image, Map};
-use rt_link_image::{Layout, Linking, entries_are_stacks, image, image_map};
 use rt_object::Object;
 use rt_system::System;
 use rt_templates::support;

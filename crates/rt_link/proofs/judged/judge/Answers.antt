@@ -1,6 +1,6 @@
 use Rattle.std.proofs.Common.{◌≤◌, ◌∙◌, ap, subst}
 use Rattle.std.proofs.lemmas.Result.{err_from_is_err_and}
-use Rattle.rt_link_image.specs.Room.{room}
+use Rattle.rt_link.specs.Room.{room}
 use Rattle.rt_link.specs.Verdict.{memory, stack_bricks}
 use Rattle.rt_link.proofs.Judging.{ordered, found, small_fault, full_fault, few_lent}
 use Rattle.rt_link.proofs.judged.judge.Goals as goal

@@ -1,0 +1,7 @@
+use Rattle.std.proofs.Common.{◌≡◌, ◌*◌, ◌≤◌, take}
+use Rattle.std.specs.List.{sum_by}
+use Rattle.rt_link.specs.Room.{module_code}
+use Rattle.rt_link.proofs.sums.all_code.Given as goal
+
+abbrev pub invariant-loop-object : goal.invariant-loop-object
+invariant-loop-object l = record { sum : l.total ≡ sum_by module_code (take l.object-index l.objects); small : l.total ≤ 3758039040 * l.object-index }

@@ -1,8 +1,0 @@
-pub mod Summed
-pub mod Looked
-pub mod Followed
-pub mod Routines
-pub mod Inside
-pub mod Long
-pub mod Ranged
-pub mod Placed

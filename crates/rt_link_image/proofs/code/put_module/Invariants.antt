@@ -1,9 +1,0 @@
-use Rattle.std.proofs.Common.{◌≡◌, ◌++◌, drop}
-use Rattle.std.specs.List.{flat_map}
-use Rattle.rt_link_image.specs.Imaged.{brick_words}
-use Rattle.rt_link_image.proofs.code.put_module.Given as goal
-
-abbrev pub invariant-loop-brick : goal.invariant-loop-brick
-invariant-loop-brick l =
-    l.out.items ++ flat_map (brick_words l.linking.objects.now l.linking.stacks.now l.linking.bindings.now.of l.«module») (drop l.brick-index l.brick-items)
-    ≡ l.fn.out.items ++ flat_map (brick_words l.linking.objects.now l.linking.stacks.now l.linking.bindings.now.of l.«module») l.brick-items

@@ -1,8 +1,0 @@
-use Rattle.std.proofs.Common.{◌≡◌, suc, ◌++◌, drop}
-use Rattle.rt_link_image.specs.Imaged.{modules_data}
-use Rattle.rt_link_image.proofs.data.put_modules.Given as goal
-
-abbrev pub invariant-loop-at : goal.invariant-loop-at
-invariant-loop-at l =
-    l.out.items ++ modules_data l.linking.objects.now l.linking.stacks.now l.linking.bindings.now.of (suc l.at) (drop l.at l.linking.objects.now)
-    ≡ l.fn.out.items ++ modules_data l.linking.objects.now l.linking.stacks.now l.linking.bindings.now.of 1 l.linking.objects.now

@@ -1,5 +1,0 @@
-use Rattle.rt_link_image.proofs.Placed.{lies_as_laid}
-use Rattle.rt_link_image.proofs.laws.images_lie_as_laid.Goals as goal
-
-pub returns : goal.returns
-returns c = lies_as_laid

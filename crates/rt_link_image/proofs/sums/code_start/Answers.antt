@@ -1,6 +1,0 @@
-use Rattle.std.proofs.Common.{◌+◌, ◌*◌, sym, ap}
-use Rattle.rt_link_image.proofs.Summed.{support_is}
-use Rattle.rt_link_image.proofs.sums.code_start.Goals as goal
-
-pub returns : goal.returns
-returns c = ap (λ n. n + 6 * c.args.number) (sym support_is)

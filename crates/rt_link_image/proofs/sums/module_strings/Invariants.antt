@@ -1,7 +1,0 @@
-use Rattle.std.proofs.Common.{◌≡◌, take}
-use Rattle.std.specs.List.{sum_by}
-use Rattle.rt_link_image.specs.Room.{string_bytes}
-use Rattle.rt_link_image.proofs.sums.module_strings.Given as goal
-
-abbrev pub invariant-loop-string : goal.invariant-loop-string
-invariant-loop-string l = l.total ≡ sum_by string_bytes (take l.string-index l.string-items)
