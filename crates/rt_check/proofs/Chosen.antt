@@ -17,8 +17,8 @@ use Rattle.rt_check_declared.specs.declared.parts.Part.{Part}
 use Rattle.rt_modes.specs.declared.mode.RecordDef.{RecordDef}
 use Rattle.rt_pieces.specs.declared.item.Item.{Item}
 use Rattle.rt_check_declared.specs.Names.{bricks_in}
-use Rattle.rt_check_starts.specs.Strings.{used, is_in, texts, start_texts, items_texts, brick_texts}
-use Rattle.rt_check_starts.specs.Strings.{all as all_texts}
+use Rattle.rt_check_module.specs.Strings.{used, is_in, texts, start_texts, items_texts, brick_texts}
+use Rattle.rt_check_module.specs.Strings.{all as all_texts}
 use Rattle.rt_check_module_laws.proofs.StartTexts.{found_at, texts_at}
 use Rattle.rt_syntax.specs.Strings.{Texts, Finds, all, in_body}
 use Rattle.rt_bricks_laws.specs.Strings.{in_start, in_any, in_items, in_lines, in_declaration, in_declarations, AreSome, none, taken, left, Rise}

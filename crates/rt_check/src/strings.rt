@@ -8,7 +8,7 @@ ghost use Rattle.rt_check_module.specs.Tree as spec;
 use crate::walk::{behind, first, items_in};
 use rt_bricks::Declaration;
 use rt_check_declared::Heading;
-use rt_check_starts::add_brick_strings;
+use rt_check_module::add_brick_strings;
 use rt_modes::ModeTable;
 use rt_syntax::{Text, add_strings};
 use rt_words::{List, Memory};

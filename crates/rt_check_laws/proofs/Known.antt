@@ -50,14 +50,14 @@ use Rattle.rt_check_declared.specs.Verdicts.{Verdict, fit, unfit}
 use Rattle.rt_check_declared.specs.Written.{Names, written, judged, counted}
 use Rattle.rt_check_bodies_laws.specs.Faults.{FaultsAreKnown as BodiesAreKnown}
 use Rattle.rt_check_bodies_laws.proofs.Faults.{AreKnown, KnownIn, one_of, then_known, written_known}
-use Rattle.rt_check_starts.specs.Bricks.{BrickFault, in_items, in_whole}
-use Rattle.rt_check_starts.specs.Defaults.{has_default}
-use Rattle.rt_check_starts.specs.Items as starts
-use Rattle.rt_check_starts.specs.Places.{Step, leads, lost, hidden, nowhere, element, leads_unless, field_by, Reached, place, unknown, unseen, no_place, on, field, step, along}
-use Rattle.rt_check_starts.specs.Places.{Found, not_known, procedure, shared, private, other, shared_by, private_by, by_itself, found, unfit_faults, private_faults}
-use Rattle.rt_check_starts.specs.Places as places
-use Rattle.rt_check_starts.specs.Starts.{Written, Wanted, elements, fields, nothing, wanted, in_each, in_all, in_fields as in_these, in_parts, all_unknown, written_layer, written_in}
-use Rattle.rt_check_starts.specs.Starts as start
+use Rattle.rt_check_module.specs.Bricks.{BrickFault, in_items, in_whole}
+use Rattle.rt_check_module.specs.Defaults.{has_default}
+use Rattle.rt_check_module.specs.Items as starts
+use Rattle.rt_check_module.specs.Places.{Step, leads, lost, hidden, nowhere, element, leads_unless, field_by, Reached, place, unknown, unseen, no_place, on, field, step, along}
+use Rattle.rt_check_module.specs.Places.{Found, not_known, procedure, shared, private, other, shared_by, private_by, by_itself, found, unfit_faults, private_faults}
+use Rattle.rt_check_module.specs.Places as places
+use Rattle.rt_check_module.specs.Starts.{Written, Wanted, elements, fields, nothing, wanted, in_each, in_all, in_fields as in_these, in_parts, all_unknown, written_layer, written_in}
+use Rattle.rt_check_module.specs.Starts as start
 use Rattle.rt_check_module.specs.Faults.{Inside, in_names, in_modes, in_bricks, inside}
 use Rattle.rt_check_module.specs.Tree.{first, items_in, Somewhere, modes_seen, records, headings, sight}
 use Rattle.rt_check_declared.specs.Names.{bricks_in}

@@ -25,8 +25,8 @@ use Rattle.rt_check_declared.specs.Totals as large
 use Rattle.rt_check_declared.specs.Verdicts.{IsIn}
 use Rattle.rt_check_declared.specs.Written.{Names}
 use Rattle.rt_check_bodies.specs.Procedures.{faults}
-use Rattle.rt_check_starts.specs.Bricks.{BrickFault, in_items, in_whole}
-use Rattle.rt_check_starts.specs.Items as starts
+use Rattle.rt_check_module.specs.Bricks.{BrickFault, in_items, in_whole}
+use Rattle.rt_check_module.specs.Items as starts
 use Rattle.rt_check_module.specs.Faults.{Inside, Stands, in_names, in_modes, in_bricks, inside}
 use Rattle.rt_check_module.specs.Tree.{items_in, Somewhere, modes_seen, records, headings, sight, tree}
 use Rattle.rt_check_laws.specs.Laws.{EachModule, OneFault}

@@ -12,7 +12,7 @@ use Rattle.rt_check_declared.specs.Records.{Stands as StandsInModes}
 use Rattle.rt_check_declared.specs.declared.bricks.Heading.{Heading}
 use Rattle.rt_check_declared.specs.Bricks.{brick_faults}
 use Rattle.rt_check_declared.specs.Totals.{LargeFault}
-use Rattle.rt_check_starts.specs.Bricks.{BrickFault}
+use Rattle.rt_check_module.specs.Bricks.{BrickFault}
 use Rattle.rt_check_module.specs.Tree.{items_in, Somewhere, modes_seen, records, headings, sight}
 
 module _ (s : Sight) where

@@ -3,3 +3,9 @@ pub mod Tree
 pub mod Scenes
 pub mod Faults
 pub mod Typed
+pub mod Places
+pub mod Defaults
+pub mod Starts
+pub mod Strings
+pub mod Items
+pub mod Bricks

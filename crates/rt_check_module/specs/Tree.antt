@@ -25,8 +25,8 @@ use Rattle.rt_check_declared.specs.declared.parts.Part.{Part}
 use Rattle.rt_check_declared.specs.Bricks.{bricks}
 use Rattle.rt_check_declared.specs.Totals.{all_fields}
 use Rattle.rt_check_module.specs.Levels.{mode_names, module_names}
-use Rattle.rt_check_starts.specs.Items.{brick_starts}
-use Rattle.rt_check_starts.specs.Strings.{brick_texts}
+use Rattle.rt_check_module.specs.Items.{brick_starts}
+use Rattle.rt_check_module.specs.Strings.{brick_texts}
 use Rattle.rt_check_module.specs.declared.filling.Filling.{Filling}
 
 -- what names stand for where these are declared

@@ -22,7 +22,7 @@ use Rattle.rt_exprs.specs.Operands.{is_label}
 use Rattle.rt_exprs_laws.specs.Agreeing.{IsItem}
 use Rattle.rt_exprs_laws.proofs.Standing.{array_inner, inner_item}
 use Rattle.rt_check_bodies_laws.proofs.Certain.{no_label}
-use Rattle.rt_check_starts.specs.Defaults.{element_has, has, all_have, fields_have, element_made, default_by, fields_made, record_has, record_made, has_default, default}
+use Rattle.rt_check_module.specs.Defaults.{element_has, has, all_have, fields_have, element_made, default_by, fields_made, record_has, record_made, has_default, default}
 use Rattle.rt_check_module_laws.specs.Starts.{AreRecordsWhole}
 use Rattle.rt_check_module_laws.proofs.Tests.{left_of, right_of, both}
 use Rattle.rt_check_module_laws.proofs.Layers.{a_number, an_array, a_record, copies_start}

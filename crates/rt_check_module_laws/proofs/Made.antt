@@ -30,9 +30,9 @@ use Rattle.rt_exprs_laws.proofs.Standing.{is_byte as byte_mode}
 use Rattle.rt_words.specs.Word.{wrap_sub}
 use Rattle.rt_check_declared.specs.Written.{Names}
 use Rattle.rt_bricks_laws.specs.Strings.{in_start}
-use Rattle.rt_check_starts.specs.Starts.{Written, copies, total, all_stand, covers, Wanted, elements, fields, nothing, if_covered, wanted_fields, wanted, each_fits, starts_field, all_fit, fields_fit, in_each, in_all, in_fields, each_made, all_made, fields_made, is_negative, number_fits, word, text_fits, text_used, text_made, number_of, written}
-use Rattle.rt_check_starts.specs.Strings.{is_in, all as all_texts, texts}
-use Rattle.rt_check_starts.proofs.Lists.{written_at, copies_seen, all_copies, list_fits, list_used, list_made}
+use Rattle.rt_check_module.specs.Starts.{Written, copies, total, all_stand, covers, Wanted, elements, fields, nothing, if_covered, wanted_fields, wanted, each_fits, starts_field, all_fit, fields_fit, in_each, in_all, in_fields, each_made, all_made, fields_made, is_negative, number_fits, word, text_fits, text_used, text_made, number_of, written}
+use Rattle.rt_check_module.specs.Strings.{is_in, all as all_texts, texts}
+use Rattle.rt_check_module.proofs.Lists.{written_at, copies_seen, all_copies, list_fits, list_used, list_made}
 use Rattle.rt_check_bodies_laws.proofs.Certain.{no_label}
 use Rattle.rt_check_module_laws.specs.Starts.{AreBytes, BeginAt}
 use Rattle.rt_check_module_laws.proofs.Tests.{left_of, right_of, both, equal_numbers, all_left, all_right}

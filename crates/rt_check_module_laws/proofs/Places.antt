@@ -21,7 +21,7 @@ use Rattle.rt_tree.specs.Modules.{part_mode, mode_along, data_in, shared_of, sha
 use Rattle.rt_exprs_laws.specs.Agreeing.{IsThere, IsItem, HasItems}
 use Rattle.rt_check_bodies_laws.specs.Held.{IsKnown}
 use Rattle.rt_exprs_laws.proofs.Links.{FieldIs, field_found}
-use Rattle.rt_check_starts.specs.Places.{Step, leads, lost, hidden, nowhere, element, leads_unless, field_by, Reached, place, unknown, unseen, no_place, on, passed, field, step, along, path, Found, unfit, shared_by, private_by, supplied, found, place_fits, place_made}
+use Rattle.rt_check_module.specs.Places.{Step, leads, lost, hidden, nowhere, element, leads_unless, field_by, Reached, place, unknown, unseen, no_place, on, passed, field, step, along, path, Found, unfit, shared_by, private_by, supplied, found, place_fits, place_made}
 use Rattle.rt_check_bodies_laws.proofs.Certain.{no_label}
 use Rattle.rt_check_module_laws.proofs.Tests.{left_of, right_of}
 use Rattle.rt_check_module_laws.proofs.Layers.{a_procedure, a_place}

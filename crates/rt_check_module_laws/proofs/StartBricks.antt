@@ -30,11 +30,11 @@ use Rattle.rt_check_bodies_laws.specs.Held.{IsKnown}
 use Rattle.rt_check_declared.specs.declared.site.Site.TheVariants as site
 use Rattle.rt_check_declared.specs.Verdicts.{IsIn}
 use Rattle.rt_check_declared.specs.Written.{written as resolved}
-use Rattle.rt_check_starts.specs.Bricks.{in_items as fault_inside}
-use Rattle.rt_check_starts.specs.Defaults.{has_default}
-use Rattle.rt_check_starts.specs.Items.{or_else, bad_unless, known_faults, written_faults, start_faults, faults_by, items_faults, brick_faults, start_of, start_by, items_starts, brick_starts}
-use Rattle.rt_check_starts.specs.Starts.{Written, written_in}
-use Rattle.rt_check_starts.specs.Strings.{used, is_in, texts, start_texts, items_texts, brick_texts}
+use Rattle.rt_check_module.specs.Bricks.{in_items as fault_inside}
+use Rattle.rt_check_module.specs.Defaults.{has_default}
+use Rattle.rt_check_module.specs.Items.{or_else, bad_unless, known_faults, written_faults, start_faults, faults_by, items_faults, brick_faults, start_of, start_by, items_starts, brick_starts}
+use Rattle.rt_check_module.specs.Starts.{Written, written_in}
+use Rattle.rt_check_module.specs.Strings.{used, is_in, texts, start_texts, items_texts, brick_texts}
 use Rattle.rt_check_module_laws.specs.Starts.{AreBytes, BeginAt, items_in, AreRecordsWhole, GivenStands, StartsFit, ReadStartsFit, EachItemHasAPart}
 use Rattle.rt_check_module_laws.proofs.Tests.{left_of, all_left, all_right}
 use Rattle.rt_check_module_laws.proofs.Layers.{joined_fields}

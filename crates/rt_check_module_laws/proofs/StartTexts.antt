@@ -16,8 +16,8 @@ use Rattle.rt_tree_nodes.specs.Scopes.{Scope}
 use Rattle.rt_items.specs.Ranges.{IsByte}
 use Rattle.rt_syntax.specs.Strings.{Texts, Finds, all}
 use Rattle.rt_bricks_laws.specs.Strings.{start_finds, in_start, in_any, in_items, in_lines}
-use Rattle.rt_check_starts.specs.Starts.{number_by, number_of}
-use Rattle.rt_check_starts.specs.Strings.{is_in, texts_layer, texts}
+use Rattle.rt_check_module.specs.Starts.{number_by, number_of}
+use Rattle.rt_check_module.specs.Strings.{is_in, texts_layer, texts}
 use Rattle.rt_tree.specs.Modules.{number_starts, starts, all_start}
 use Rattle.rt_check_module_laws.specs.Starts.{AreBytes}
 use Rattle.rt_check_module_laws.proofs.Tests.{all_left, both}

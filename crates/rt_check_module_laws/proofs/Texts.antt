@@ -25,8 +25,8 @@ use Rattle.rt_check_declared.specs.declared.parts.Given.TheVariants as given
 use Rattle.rt_check_declared.specs.declared.parts.Part.{Part}
 use Rattle.rt_check_declared.specs.Bricks.{bricks_in, bricks}
 use Rattle.rt_check_declared.specs.Parts.{item_parts}
-use Rattle.rt_check_starts.specs.Strings.{used, is_in, texts, start_texts, items_texts, brick_texts}
-use Rattle.rt_check_starts.specs.Strings.{all as all_texts}
+use Rattle.rt_check_module.specs.Strings.{used, is_in, texts, start_texts, items_texts, brick_texts}
+use Rattle.rt_check_module.specs.Strings.{all as all_texts}
 use Rattle.rt_bricks_laws.specs.Strings.{in_start, in_any, in_items, in_lines, in_declaration, in_declarations, IsShortText}
 use Rattle.rt_bricks_laws.proofs.StringBricks.{strings_are_short}
 use Rattle.rt_check_module_laws.proofs.StartTexts.{found_at, texts_at}

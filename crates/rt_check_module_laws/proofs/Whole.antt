@@ -29,9 +29,9 @@ use Rattle.rt_check_declared.specs.declared.bricks.Heading.{Heading}
 use Rattle.rt_check_declared.specs.declared.parts.Part.{Part}
 use Rattle.rt_check_declared.specs.Bricks.{result_faults, bricks_in, bricks, faults_in, brick_faults}
 use Rattle.rt_check_declared.specs.Parts.{recovers, parts, item_parts}
-use Rattle.rt_check_starts.specs.Bricks.{BrickFault, in_items}
-use Rattle.rt_check_starts.specs.Items.{brick_starts}
-use Rattle.rt_check_starts.specs.Items.{brick_faults as start_faults}
+use Rattle.rt_check_module.specs.Bricks.{BrickFault, in_items}
+use Rattle.rt_check_module.specs.Items.{brick_starts}
+use Rattle.rt_check_module.specs.Items.{brick_faults as start_faults}
 use Rattle.rt_check_bodies_laws.specs.Held.{Holds, IsKnown, AllKnown, ResultIs}
 use Rattle.rt_check_bodies_laws.specs.Standing.{AreRecords}
 use Rattle.rt_check_bodies_laws.proofs.Brick.{procedure_accepted}

@@ -12,9 +12,9 @@ use Rattle.rt_tree_nodes.specs.Scopes.{Scope}
 use Rattle.rt_exprs.specs.Sights.{Sight}
 use Rattle.rt_items.specs.Ranges.{IsByte}
 use Rattle.rt_sizes.specs.Sizes.{Table}
-use Rattle.rt_check_starts.specs.Bricks.{AreStarts}
-use Rattle.rt_check_starts.specs.Items.{brick_faults, brick_starts}
-use Rattle.rt_check_starts.specs.Strings.{is_in, brick_texts}
+use Rattle.rt_check_module.specs.Bricks.{AreStarts}
+use Rattle.rt_check_module.specs.Items.{brick_faults, brick_starts}
+use Rattle.rt_check_module.specs.Strings.{is_in, brick_texts}
 use Rattle.rt_syntax.specs.Strings.{Texts}
 use Rattle.rt_tree.specs.Modules.{items_start}
 use Rattle.rt_exprs.specs.declared.scope.Meaning.{Meaning}

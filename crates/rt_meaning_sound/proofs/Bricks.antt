@@ -23,7 +23,7 @@ use Rattle.rt_check_declared.specs.declared.bricks.Sort.TheVariants as sort
 use Rattle.rt_check_declared.specs.declared.parts.Given.{Given}
 use Rattle.rt_check_declared.specs.declared.parts.Given.TheVariants as given
 use Rattle.rt_check_declared.specs.declared.parts.Part.{Part}
-use Rattle.rt_check_starts.specs.Items.{records, start_by, items_starts, brick_starts}
+use Rattle.rt_check_module.specs.Items.{records, start_by, items_starts, brick_starts}
 use Rattle.rt_check_module_laws.specs.Starts.{AreBytes}
 use Rattle.rt_check_module_laws.proofs.StartTexts.{items_keep, lines_keep}
 use Rattle.rt_check_module.specs.declared.filling.Filling.{Filling}

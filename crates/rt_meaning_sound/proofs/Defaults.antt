@@ -7,7 +7,7 @@ use Rattle.rt_modes.specs.declared.mode.Mode.TheOpen.{Mode-F}
 use Rattle.rt_modes.specs.declared.mode.RecordDef.{RecordDef}
 use Rattle.rt_tree_nodes.specs.declared.brick.DataStart.{DataStart}
 use Rattle.rt_tree_nodes.specs.declared.brick.DataStart.TheVariants as start
-use Rattle.rt_check_starts.specs.Defaults.{element_made, default_by, fields_made, record_made, default}
+use Rattle.rt_check_module.specs.Defaults.{element_made, default_by, fields_made, record_made, default}
 use Rattle.rt_bricks_laws.proofs.AllLists.{all_mapped}
 use Rattle.rt_meaning_sound.proofs.NumberWords.{AreWords, a_number, a_list, all_copies}
 

@@ -21,9 +21,9 @@ use Rattle.rt_check_declared.specs.Written.{Names}
 use Rattle.rt_bricks_laws.specs.Bodies.{all as all_so}
 use Rattle.rt_bricks_laws.specs.Numbers.{is_word, words_in_copies, start_words, words_in_start}
 use Rattle.rt_bricks_laws.specs.Strings.{in_start}
-use Rattle.rt_check_starts.specs.Places.{Found, procedure, shared, place_made}
-use Rattle.rt_check_starts.specs.Starts.{Written, Wanted, elements, fields, nothing, wanted, each_made, all_made, fields_made, parts_made, is_negative, word, text_made, number_of, written}
-use Rattle.rt_check_starts.proofs.Lists.{written_at}
+use Rattle.rt_check_module.specs.Places.{Found, procedure, shared, place_made}
+use Rattle.rt_check_module.specs.Starts.{Written, Wanted, elements, fields, nothing, wanted, each_made, all_made, fields_made, parts_made, is_negative, word, text_made, number_of, written}
+use Rattle.rt_check_module.proofs.Lists.{written_at}
 use Rattle.rt_check_module_laws.specs.Starts.{AreBytes}
 use Rattle.rt_check_module_laws.proofs.StartTexts.{found_at, all_keep}
 use Rattle.rt_bricks_laws.proofs.AllLists.{left_of, right_of, all_joined, all_right, all_mapped}

@@ -3,8 +3,8 @@ use Rattle.std.specs.Prelude.{List, Some, None}
 use Rattle.rt_tree_nodes.specs.declared.brick.DataStart.{DataStart}
 use Rattle.rt_check_faults.specs.Outcomes.{IsLeast, UnlessMemory}
 use Rattle.rt_exprs.specs.Sights.{Sight}
-use Rattle.rt_check_starts.specs.Bricks.{BrickFault}
-use Rattle.rt_check_starts.specs.Items.{brick_starts}
+use Rattle.rt_check_module.specs.Bricks.{BrickFault}
+use Rattle.rt_check_module.specs.Items.{brick_starts}
 use Rattle.rt_check.proofs.contents.data_filling.Goals as goal
 
 pub returns-in-Ok-clause-held : goal.returns-in-Ok-clause-held

@@ -1,6 +1,0 @@
-use Rattle.std.proofs.Common.{◌≡◌, ◌++◌, drop}
-use Rattle.rt_check_starts.specs.Places as spec
-use Rattle.rt_check_starts.proofs.places.path.Given as goal
-
-abbrev pub invariant-loop-selector : goal.invariant-loop-selector
-invariant-loop-selector l = l.numbers ++ spec.path l.modes.records (drop l.selector-index l.selectors) l.inner ≡ spec.path l.modes.records l.selectors l.fn.mode
