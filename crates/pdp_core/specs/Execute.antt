@@ -33,10 +33,10 @@ use Rattle.pdp_core.specs.declared.cpu.Kind.TheVariants.{Odd, Reserved, Access, 
 use Rattle.pdp_core.specs.declared.cpu.Failure.{Failure}
 use Rattle.pdp_core.specs.declared.cpu.Stop.{Stop}
 use Rattle.pdp_core.specs.declared.cpu.Stop.TheVariants.{Went, Trap as Service, Fault}
-use Rattle.pdp_values.specs.declared.value.Shift.{Shift}
+use Rattle.pdp_code.specs.declared.value.Shift.{Shift}
 use Rattle.pdp_core.specs.declared.cpu.Place.{Place}
 use Rattle.pdp_core.specs.declared.cpu.Place.TheVariants.{InRegister, InMemory, InCode}
-use Rattle.pdp_values.specs.Values.{negative, plus, minus, single_value, single_carry, single_overflow, product_of, no_word, too_large, quotient_word, remainder_word, shifted}
+use Rattle.pdp_code.specs.Values.{negative, plus, minus, single_value, single_carry, single_overflow, product_of, no_word, too_large, quotient_word, remainder_word, shifted}
 use Rattle.pdp_core.specs.World.{World, fetched, word_read, byte_read, word_written, byte_written}
 
 -- what an instruction leaves

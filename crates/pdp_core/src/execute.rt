@@ -5,7 +5,7 @@ ghost use Rattle.pdp_code.specs.declared.instruction.Instr.{Instr};
 ghost use Rattle.pdp_core.specs.Accesses.{store_made, update_made, double_made, single_end_made, single_read_made, single_made, at_place, after, word_made, register_made, push_made, pop_made, perform_made, execute_made};
 ghost use Rattle.pdp_core.specs.Spots.{place_of};
 ghost use Rattle.pdp_code.specs.declared.instruction.Reg.TheVariants.{Pc};
-ghost use Rattle.pdp_values.specs.Values.{limit, single_value};
+ghost use Rattle.pdp_code.specs.Values.{limit, single_value};
 ghost use Rattle.pdp_core.specs.Execute.{failure, address, and_then, store, move as move_of, double, sum, single, single_read, single_end, single_flags, on_word as on_word_of, on_register, is_odd_pair, left, holds, branch, loop, target, call, return_by, double_step, sum_step, single_step, word_step, register_step, jump_step, call_step, perform as perform_of, plan, trap, execute, reg, with_reg};
 ghost use Rattle.pdp_core.specs.Told.{told, stop_of};
 ghost use Rattle.pdp_core.specs.Kept.{AllButCounter, turned_back};
@@ -22,10 +22,9 @@ use crate::operand::{
     value, word_at, write_word,
 };
 use crate::pairs::{divide, get_pair, set_product, set_shifted, set_shifted_pair};
-use pdp_code::{Condition, DoubleOp, Reg, RegisterOp, SingleOp, Size, SumOp, WordOp};
-use pdp_values::{
-    OnOne, OnSum, OnTwo, Width, add, changed, clear_bits, differ_of, extend, limit_of, product,
-    shift, subtract,
+use pdp_code::{
+    Condition, DoubleOp, OnOne, OnSum, OnTwo, Reg, RegisterOp, SingleOp, Size, SumOp, Width,
+    WordOp, add, changed, clear_bits, differ_of, extend, limit_of, product, shift, subtract,
 };
 use rt_words::{wrap_add, wrap_sub};
 

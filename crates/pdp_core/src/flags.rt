@@ -1,11 +1,10 @@
 // Flags.
 ghost use Rattle.std.specs.Prelude.{◌≡◌, ◌<◌, false};
-ghost use Rattle.pdp_values.specs.Values.{limit, single_carry, single_overflow};
+ghost use Rattle.pdp_code.specs.Values.{limit, single_carry, single_overflow};
 ghost use Rattle.pdp_core.specs.Execute.{by_value, by_difference, by_sum, flags, marked};
 
 use crate::cpu::Regs;
-use pdp_code::{SingleOp, Size};
-use pdp_values::{add, carry_of, differ_of, is_negative, overflow_of, subtract};
+use pdp_code::{SingleOp, Size, add, carry_of, differ_of, is_negative, overflow_of, subtract};
 
 /// Sets the four flags.
 #[inline(always)]

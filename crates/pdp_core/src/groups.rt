@@ -20,11 +20,11 @@ use crate::flags::mark;
 use crate::memory::Bus;
 use pdp_code::first::register;
 use pdp_code::laws::first_words;
-use pdp_code::{Condition, RegisterOp, WordOp};
-use pdp_values::operations::{
+use pdp_code::operations::{
     Adc, Add, Asl, Asr, Bic, Bis, Bit, Bytes, Clr, Cmp, Com, Dec, Inc, Mov, Neg, OnOne, OnSum,
     OnTwo, Rol, Ror, Sbc, Sub, Tst, Width, Words,
 };
+use pdp_code::{Condition, RegisterOp, WordOp};
 
 // How an instruction ended that asks for no service.
 macro_rules! ended {

@@ -6,15 +6,14 @@ ghost use Rattle.rt_words.specs.Word.{wrap_add as sum_of, wrap_sub as difference
 ghost use Rattle.pdp_core.specs.Log.{noted, FetchesWord, ReadsWord, WritesWord, WritesByte};
 ghost use Rattle.pdp_core.specs.Accesses.{next_made, after, address_made, load_made, operand_made, store_made};
 ghost use Rattle.pdp_core.specs.World.{word_written, byte_written};
-ghost use Rattle.pdp_values.specs.Values.{limit};
+ghost use Rattle.pdp_code.specs.Values.{limit};
 ghost use Rattle.pdp_core.specs.Execute.{and_then, of_refused, of_memory, goes_on, reg, with_reg, pointer_reg, stride, fetch, load_word, next_word, address, load, operand, store, paired, left};
 ghost use Rattle.pdp_core.specs.Kept.{AllButCounter};
 ghost use Rattle.pdp_core.specs.Spots.{place_of, placed};
 
 use crate::cpu::{Failure, Kind, Refused, Regs, Spot};
 use crate::memory::Bus;
-use pdp_code::{Reg, Size};
-use pdp_values::set_low_byte;
+use pdp_code::{Reg, Size, set_low_byte};
 use rt_words::{wrap_add, wrap_sub};
 
 /// A register's number.

@@ -6,8 +6,7 @@ ghost use Rattle.pdp_core.specs.Execute.{with_product, pair, with_pair, with_quo
 use crate::cpu::Regs;
 use crate::flags::{set_by_value, set_flags};
 use crate::operand::{get, index, set};
-use pdp_code::{Reg, Size};
-use pdp_values::{Shift, differ_of, distance, signed, word_distance};
+use pdp_code::{Reg, Shift, Size, differ_of, distance, signed, word_distance};
 
 /// The word of a register and that of the next.
 pub fn get_pair(regs: &Regs, r: Reg) -> u32

@@ -8,9 +8,9 @@ use Rattle.std.proofs.lemmas.Bool.{lt-ltb, le-ltb, lt-leb, le-leb, cases_lt}
 use Rattle.std.proofs.lemmas.Nat.{mul-mod_second}
 use Rattle.std.proofs.lemmas.Int.{ints}
 use Rattle.rt_words.specs.Word.{signed_of, differ}
-use Rattle.pdp_values.specs.Values.{product_of, unshifted, lefts, rights}
+use Rattle.pdp_code.specs.Values.{product_of, unshifted, lefts, rights}
 use Rattle.pdp_core_laws.specs.Numbers.{signed_in, signed_long}
-use Rattle.pdp_values.proofs.Shifts.{rights_below, lefts_below}
+use Rattle.pdp_code.proofs.Shifts.{rights_below, lefts_below}
 
 pub low_in : (l h x : ℕ) → x < h → signed_in l h x ≡ pos x
 low_in l h x p = rw (lt-ltb x h p) refl

@@ -10,7 +10,7 @@ use Rattle.pdp_code.specs.declared.instruction.SingleOp.TheVariants.{Ror, Rol, A
 use Rattle.pdp_code.specs.declared.instruction.Condition.{Condition}
 use Rattle.pdp_code.specs.Code.{reg_code}
 use Rattle.pdp_core.specs.declared.cpu.Regs.{Regs}
-use Rattle.pdp_values.specs.Values.{limit, half, plus, minus, one_if, single_value, product_of, no_word, too_large, quotient_word, remainder_word, unshifted, lefts, rights}
+use Rattle.pdp_code.specs.Values.{limit, half, plus, minus, one_if, single_value, product_of, no_word, too_large, quotient_word, remainder_word, unshifted, lefts, rights}
 use Rattle.pdp_core.specs.Execute.{by_sum, by_difference, single_flags, holds, pair, shift_pair}
 
 -- the number that x stands for in two's complement, where those from h on stand for themselves less l

@@ -1,7 +1,7 @@
 //! What the effects of instructions mean for the numbers that words and bytes stand for.
 
 ghost use Rattle.std.specs.Prelude.{int_lt, int_le, nat_eq, nat_lt, nat_le, not, pos, neg_ℤ, ◌+ℤ◌, ◌-ℤ◌, ◌*ℤ◌};
-ghost use Rattle.pdp_values.specs.Values.{one_if};
+ghost use Rattle.pdp_code.specs.Values.{one_if};
 ghost use Rattle.pdp_core_laws.specs.Numbers.{TakenBy, TakenUnsigned, SumOverflows, SumCarries, SumStands, DifferenceOverflows, DifferenceCarries, DifferenceStands, Overflows, Carries, Stands, KeepsCarry, ShiftsLeft, RotatesLeft, RotatesRight, Halves, ShiftsRight, Product, LowWord, Wide, Quotient, Remainder, SameSign, Smaller, Division, Leftward, Doubling, Rightward, InPair};
 
 use pdp_code::{Condition, SingleOp};

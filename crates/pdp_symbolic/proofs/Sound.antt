@@ -33,7 +33,7 @@ use Rattle.pdp_core.specs.declared.cpu.Stop.TheVariants.{Went}
 use Rattle.pdp_core.specs.declared.cpu.Place.{Place}
 use Rattle.pdp_core.specs.declared.cpu.Place.TheVariants.{InRegister, InMemory, InCode}
 use Rattle.pdp_core.specs.World.{World, word_at, byte_at, put_word, put_byte}
-use Rattle.pdp_values.specs.Values.{negative, single_value, magnitude, signed_word, shifted, product_of, too_large, quotient_word, remainder_word}
+use Rattle.pdp_code.specs.Values.{negative, single_value, magnitude, signed_word, shifted, product_of, too_large, quotient_word, remainder_word}
 use Rattle.pdp_core.specs.Execute.{Outcome, and_then, reg, with_reg, fetch, load_word, operand, address, load, store, goes_on, double, sum, single, single_read, single_end, on_word, by_value, by_difference, by_sum, perform, call, return_by, loop, branch, holds, on_register, target, with_product, divided, shift_word, shift_pair, pair}
 use Rattle.pdp_core.specs.Protection.{usable}
 use Rattle.pdp_symbolic.specs.Machine.{Layout, IsLaid, protection, memory, Machine, Held, held, regs, WordsAt, Holds, Matches, SameData, Stands}

@@ -20,7 +20,7 @@ use Rattle.pdp_code.specs.declared.instruction.RegisterOp.{RegisterOp}
 use Rattle.pdp_code.specs.declared.instruction.RegisterOp.TheVariants.{Mul, Div, Ash, Ashc, Xor}
 use Rattle.pdp_code.specs.declared.instruction.Instr.{Instr}
 use Rattle.pdp_code.specs.declared.instruction.Instr.TheVariants.{Double, Sum, Single, OnWord, OnRegister, Branch, Loop, Jump, Call, Return, Trap, Flags}
-use Rattle.pdp_values.specs.Values.{single_value, single_carry, single_overflow, product_of, no_word, too_large, quotient_word, remainder_word, shifted}
+use Rattle.pdp_code.specs.Values.{single_value, single_carry, single_overflow, product_of, no_word, too_large, quotient_word, remainder_word, shifted}
 use Rattle.pdp_core.specs.Execute.{reg, holds}
 use Rattle.pdp_symbolic.specs.Machine.{Machine, regs}
 

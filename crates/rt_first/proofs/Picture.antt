@@ -5,7 +5,7 @@ use Rattle.std.specs.List.{AllByRecursion}
 use Rattle.rt_words.specs.Word.{wrap_add, wrap_sub}
 use Rattle.pdp_core.specs.World.{World, word_at, put_word, fetched, word_written}
 use Rattle.pdp_core.specs.Protection.{protected}
-use Rattle.pdp_values.specs.Values.{negative}
+use Rattle.pdp_code.specs.Values.{negative}
 use Rattle.pdp_core.specs.Execute.{execute, by_value}
 use Rattle.pdp_code.specs.declared.Size.TheVariants.{Word}
 use Rattle.pdp_core.specs.declared.cpu.Regs.{Regs}

@@ -1,7 +1,7 @@
 //! Products, distances and shifts.
 
 ghost use Rattle.std.specs.Prelude.{◌≡◌, ◌+◌, ◌-◌, ◌*◌, ◌/◌, ◌%◌, ◌<◌, ◌≤◌, ◌^◌};
-ghost use Rattle.pdp_values.specs.Values.{widened, product_of, magnitude, signed_word, one_left, one_right, lefts, rights, shifted};
+ghost use Rattle.pdp_code.specs.Values.{widened, product_of, magnitude, signed_word, one_left, one_right, lefts, rights, shifted};
 
 use crate::value::{Shift, differ_of};
 

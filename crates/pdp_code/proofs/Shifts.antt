@@ -1,8 +1,8 @@
 -- What is shifted stays below its bound.
 use Rattle.std.proofs.Common.{ℕ, zero, suc, ◌+◌, ◌-◌, ◌/◌, ◌%◌, ◌<◌, ◌≤◌, Bool, true, false, arith}
 use Rattle.std.specs.Prelude.{nat_lt, nat_le, if◌then◌else◌}
-use Rattle.pdp_values.specs.declared.value.Shift.{Shift}
-use Rattle.pdp_values.specs.Values.{lefts, rights, unshifted, shifted}
+use Rattle.pdp_code.specs.declared.value.Shift.{Shift}
+use Rattle.pdp_code.specs.Values.{lefts, rights, unshifted, shifted}
 
 pub lefts_below : (n l h : ℕ) (s : Shift) → 0 < l → s.value < l → (lefts n l h s).value < l
 lefts_below zero l h s p q = q

@@ -2,7 +2,7 @@
 
 ghost use Rattle.std.specs.Prelude.{◌≡◌, ◌+◌, ◌-◌, ◌*◌, ◌/◌, ◌%◌, ◌<◌, ◌≤◌, ◌^◌, bit_and};
 ghost use Rattle.rt_words.specs.Word.{differ, extend_sign, with_low_byte};
-ghost use Rattle.pdp_values.specs.Values.{limit, half, negative, plus, minus, one_if, half_if, single_value, single_carry, single_overflow};
+ghost use Rattle.pdp_code.specs.Values.{limit, half, negative, plus, minus, one_if, half_if, single_value, single_carry, single_overflow};
 
 use pdp_code::{SingleOp, Size};
 use rt_words::wrap_sub;

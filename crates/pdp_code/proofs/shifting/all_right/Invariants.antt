@@ -1,6 +1,6 @@
 use Rattle.std.proofs.Common.{◌≡◌}
-use Rattle.pdp_values.specs.Values.{rights}
-use Rattle.pdp_values.proofs.shifting.all_right.Given as goal
+use Rattle.pdp_code.specs.Values.{rights}
+use Rattle.pdp_code.proofs.shifting.all_right.Given as goal
 
 abbrev pub invariant-loop-i : goal.invariant-loop-i
 invariant-loop-i l = l.s ≡ rights l.i l.fn.h l.fn.x

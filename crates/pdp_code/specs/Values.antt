@@ -5,7 +5,7 @@ use Rattle.pdp_code.specs.declared.instruction.Size.{Size}
 use Rattle.pdp_code.specs.declared.instruction.Size.TheVariants.{Word, Byte}
 use Rattle.pdp_code.specs.declared.instruction.SingleOp.{SingleOp}
 use Rattle.pdp_code.specs.declared.instruction.SingleOp.TheVariants.{Clr, Com, Inc, Dec, Neg, Adc, Sbc, Tst, Ror, Rol, Asr, Asl}
-use Rattle.pdp_values.specs.declared.value.Shift.{Shift}
+use Rattle.pdp_code.specs.declared.value.Shift.{Shift}
 
 -- how many values a word or a byte has, and half of them
 abbrev pub limit : Size → ℕ
