@@ -10,8 +10,9 @@
 //! `decode` goes by the octal codes alone. What a machine refuses further, as DIV of an odd register, a jump to a register
 //! or a TRAP without a service, are instructions here.
 //!
-//! What operations compute of words and bytes, without registers and memory, is in `specs/Values.antt`: sums and differences of a size, what an operation of one operand makes of a value,
-//! with its carry and overflow, products, quotients and shifts. Each function is its definition.
+//! What operations compute of words and bytes, without registers and memory, is in `specs/Values.antt`: sums and differences
+//! of a size, what an operation of one operand makes of a value, with its carry and overflow, products, quotients and shifts.
+//! Each function is its definition.
 //!
 //! The operations are types too ([`OnTwo`], [`OnSum`], [`OnOne`], [`Width`]), so that what is generic over them is built for each
 //! by itself.

@@ -1,9 +1,9 @@
 -- An image is read back whatever follows it, and what is refused lies within its bytes.
 use Rattle.std.proofs.Common.{ℕ, ◌+◌, ◌*◌, List, [], ◌∷◌, ◌++◌, length, sum, map, codes}
-use Rattle.rt_formats.specs.Format.{any, within, byte, word, block, tag, name, times, passing}
-use Rattle.rt_formats.specs.Laws.{IsReadBack}
-use Rattle.rt_formats.proofs.Front.{front_nothing, front_byte, front_word, front_block, front_tag, front_name, front_then, front_each, front_times, front_passing}
-use Rattle.rt_formats.proofs.Within.{Within, in_nothing, in_byte, in_word, in_block, in_tag, in_name, in_then, in_each, in_times, in_passing}
+use Rattle.rt_words.specs.Format.{any, within, byte, word, block, tag, name, times, passing}
+use Rattle.rt_words.specs.FormatLaws.{IsReadBack}
+use Rattle.rt_words.proofs.Front.{front_nothing, front_byte, front_word, front_block, front_tag, front_name, front_then, front_each, front_times, front_passing}
+use Rattle.rt_words.proofs.Within.{Within, in_nothing, in_byte, in_word, in_block, in_tag, in_name, in_then, in_each, in_times, in_passing}
 use Rattle.rt_image.specs.declared.image.ImageTask.{ImageTask}
 use Rattle.rt_image.specs.Grammar.{data_count, entry_below, stack_behind, is_new, code_format, data_format, task_format, tasks_format, image_format}
 use Rattle.rt_image.specs.Ranges.{task_size}

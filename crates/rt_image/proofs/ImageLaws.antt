@@ -1,8 +1,8 @@
 -- Laws of the bytes of images.
 use Rattle.std.proofs.Common.{◌≡◌, ℕ, List, [], ◌⊎◌, inl, inr, sym, subst, ◌∙◌}
 use Rattle.std.proofs.lemmas.List.{append-nil}
-use Rattle.rt_formats.proofs.Front.{none_begins}
-use Rattle.rt_formats.proofs.Whole as whole
+use Rattle.rt_words.proofs.Front.{none_begins}
+use Rattle.rt_words.proofs.Whole as whole
 use Rattle.rt_image.specs.declared.image.ImageParts.{ImageParts}
 use Rattle.rt_image.specs.Grammar.{image_format, IsImage, IsNoImage}
 use Rattle.rt_image.specs.Laws.{AreInRange, HaveASpelling, HaveOneSpelling, NoneBegins, AreOrAreNot, NeverBoth, HaveOnePlace}

@@ -1,9 +1,9 @@
 -- The readers of an image and its parts are right for their formats.
 use Rattle.std.proofs.Common.{ℕ, ◌+◌, ◌*◌, List, [], ◌∷◌, ◌++◌, length, sum, map, codes}
-use Rattle.rt_formats.specs.Format.{any, within}
-use Rattle.rt_formats.specs.Format as format
-use Rattle.rt_formats.specs.Reading as formats
-use Rattle.rt_formats.proofs.Right.{Right, right_nothing, right_byte, right_word, right_block, right_tag, right_name, right_then, right_each, right_times, right_passing}
+use Rattle.rt_words.specs.Format.{any, within}
+use Rattle.rt_words.specs.Format as format
+use Rattle.rt_words.specs.Reading as formats
+use Rattle.rt_words.proofs.Right.{Right, right_nothing, right_byte, right_word, right_block, right_tag, right_name, right_then, right_each, right_times, right_passing}
 use Rattle.rt_image.specs.declared.image.ImageTask.{ImageTask}
 use Rattle.rt_image.specs.Grammar.{data_count, entry_below, stack_behind, is_new, code_format, data_format, task_format, tasks_format, image_format}
 use Rattle.rt_image.specs.Ranges.{task_size}

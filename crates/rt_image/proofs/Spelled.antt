@@ -3,9 +3,9 @@ use Rattle.std.proofs.Common.{◌≡◌, ℕ, ◌+◌, ◌*◌, ◌%◌, ◌^◌
 use Rattle.std.specs.List.{AllByRecursion}
 use Rattle.std.proofs.lemmas.List.{append-nil}
 use Rattle.rt_words.specs.Bytes.{word_bytes}
-use Rattle.rt_formats.specs.Format.{byte, word, any, within, times}
-use Rattle.rt_formats.specs.Spelling.{spell_all, words_bytes, name_bytes}
-use Rattle.rt_formats.proofs.Spelled.{AreBytes, bytes_left, bytes_before, bytes_append, word_are_bytes, all_are_bytes, IsSpelled, spelled_word, spelled_byte, spelled_name, spelled_times, any_is, AllStand, each_there, each_back}
+use Rattle.rt_words.specs.Format.{byte, word, any, within, times}
+use Rattle.rt_words.specs.Spelling.{spell_all, words_bytes, name_bytes}
+use Rattle.rt_words.proofs.Spelled.{AreBytes, bytes_left, bytes_before, bytes_append, word_are_bytes, all_are_bytes, IsSpelled, spelled_word, spelled_byte, spelled_name, spelled_times, any_is, AllStand, each_there, each_back}
 use Rattle.rt_image.specs.declared.image.ImageParts.{ImageParts}
 use Rattle.rt_image.specs.declared.image.ImageTask.{ImageTask}
 use Rattle.rt_image.specs.Grammar.{data_count, entry_below, stack_behind, is_new, code_format, data_format, task_format, tasks_format, image_format}

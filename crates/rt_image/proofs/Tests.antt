@@ -2,8 +2,8 @@
 use Rattle.std.proofs.Common.{◌≡◌, ℕ, ◌+◌, ◌*◌, ◌%◌, ◌<◌, ◌≤◌, Bool, true, false, ◌&&◌, eqb, leb, ltb, Some, refl, arith}
 use Rattle.std.proofs.lemmas.Bool.{eqb-true, leb-true, ltb-true, le-leb, lt-ltb}
 use Rattle.std.proofs.lemmas.Bool.Decides.{nat_tests}
-use Rattle.rt_formats.specs.Format.{within}
-use Rattle.rt_formats.proofs.Spelled.{true_is, true_back}
+use Rattle.rt_words.specs.Format.{within}
+use Rattle.rt_words.proofs.Spelled.{true_is, true_back}
 use Rattle.rt_image.specs.Grammar.{data_count, entry_below, stack_behind, is_stack}
 
 both_true : (a b : Bool) → (a && b) ≡ true → (a ≡ true) × (b ≡ true)

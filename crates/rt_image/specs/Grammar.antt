@@ -2,7 +2,7 @@
 use Rattle.std.specs.Prelude.{ℕ, ◌+◌, ◌*◌, ◌%◌, ◌==◌, nat_lt, nat_le, Bool, true, not, ◌&&◌, List, [], ◌∷◌, ◌++◌, length, sum, map, codes, Option}
 use Rattle.std.specs.List.{AllByRecursion}
 use Rattle.std.specs.Str.{bytes_eq}
-use Rattle.rt_formats.specs.Format.{Format, Spell, AreRefusedAt, nothing, byte, word, block, tag, name, where_true, any, within, ◌>>=◌, each, times, passing}
+use Rattle.rt_words.specs.Format.{Format, Spell, AreRefusedAt, nothing, byte, word, block, tag, name, where_true, any, within, ◌>>=◌, each, times, passing}
 use Rattle.rt_image.specs.declared.fault.ImageFault.{ImageFault}
 use Rattle.rt_image.specs.declared.fault.ImageFault.TheVariants as fault
 use Rattle.rt_image.specs.declared.image.ImageParts.{ImageParts}

@@ -1,7 +1,7 @@
 -- Images and their parts as functions from the bytes that stand there.
 use Rattle.std.specs.Prelude.{ℕ, ◌+◌, ◌*◌, List, [], ◌∷◌, ◌++◌, length, sum, map, codes}
-use Rattle.rt_formats.specs.Format.{any, within}
-use Rattle.rt_formats.specs.Reading.{Reader, nothing, byte, word, block, tag, name, ◌>>=◌, each, times, passing}
+use Rattle.rt_words.specs.Format.{any, within}
+use Rattle.rt_words.specs.Reading.{Reader, nothing, byte, word, block, tag, name, ◌>>=◌, each, times, passing}
 use Rattle.rt_image.specs.declared.image.ImageParts.{ImageParts}
 use Rattle.rt_image.specs.declared.image.ImageTask.{ImageTask}
 use Rattle.rt_image.specs.Grammar.{data_count, entry_below, stack_behind, is_new}

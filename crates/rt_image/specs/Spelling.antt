@@ -1,6 +1,6 @@
 -- The bytes of an image, as they are written.
 use Rattle.std.specs.Prelude.{ℕ, List, [], ◌∷◌, ◌++◌, length, codes}
-use Rattle.rt_formats.specs.Spelling.{spell_all, words_bytes, name_bytes}
+use Rattle.rt_words.specs.Spelling.{spell_all, words_bytes, name_bytes}
 use Rattle.rt_words.specs.Bytes.{word_bytes}
 use Rattle.rt_image.specs.declared.image.ImageParts.{ImageParts}
 use Rattle.rt_image.specs.declared.image.ImageTask.{ImageTask}

@@ -1,8 +1,8 @@
 //! An image, read from its bytes.
 
 ghost use Rattle.std.specs.Prelude.{◌≡◌, ◌⊎◌, ◌≤◌, ◌+◌, ◌*◌, [], length, IfOk, IfErr, Ok, Err};
-ghost use Rattle.rt_formats.specs.Reading as formats;
-ghost use Rattle.rt_formats.specs.Reading.{Gives};
+ghost use Rattle.rt_words.specs.Reading as formats;
+ghost use Rattle.rt_words.specs.Reading.{Gives};
 ghost use Rattle.rt_image.specs.Grammar.{data_count, IsImage, IsNoImage, Faults};
 ghost use Rattle.rt_image.specs.Reading as reads;
 ghost use Rattle.rt_image.specs.declared.fault.ImageFault.TheVariants as fault;
@@ -12,11 +12,10 @@ use crate::fault::ImageFault;
 use crate::image::{Image, ImageParts};
 use crate::ranges::MEMORY;
 use crate::tasks::read_tasks;
-use rt_formats::{
-    Stop, front_word, read_block, read_bytes_within, read_end, read_tag, read_word_within,
-    read_words,
+use rt_words::{
+    Bytes, List, Stop, front_word, read_block, read_bytes_within, read_end, read_tag,
+    read_word_within, read_words,
 };
-use rt_words::{Bytes, List};
 use std::alloc::Global;
 
 /// Reads the image that the bytes are, all of them. Where they are none, the fault has the place of the

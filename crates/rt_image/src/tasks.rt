@@ -1,16 +1,15 @@
 //! The tasks of an image, read from their bytes.
 
 ghost use Rattle.std.specs.Prelude.{◌≡◌, ◌≤◌, ◌*◌, ◌^◌, [], length};
-ghost use Rattle.rt_formats.specs.Format.{any};
-ghost use Rattle.rt_formats.specs.Reading as formats;
-ghost use Rattle.rt_formats.specs.Reading.{Gives};
+ghost use Rattle.rt_words.specs.Format.{any};
+ghost use Rattle.rt_words.specs.Reading as formats;
+ghost use Rattle.rt_words.specs.Reading.{Gives};
 ghost use Rattle.rt_image.specs.Grammar.{entry_below, stack_behind, is_stack, is_new};
 ghost use Rattle.rt_image.specs.Reading as reads;
 
 use crate::image::ImageTask;
 use crate::ranges::{MEMORY, is_new, memory_behind};
-use rt_formats::{Stop, front_word, read_byte_within, read_name, read_word};
-use rt_words::{List, Name};
+use rt_words::{List, Name, Stop, front_word, read_byte_within, read_name, read_word};
 use std::alloc::Global;
 
 /// The tasks behind code that ends at `code_end`, where `used` bytes of the memory are taken before them.
@@ -29,7 +28,7 @@ pub fn read_tasks(
 }
 
 /// So many tasks.
-#[tactic(auto, unfolding(rt_formats::specs::Reading::each))]
+#[tactic(auto, unfolding(rt_words::specs::Reading::each))]
 fn read_each(
     alloc: Global,
     code_end: usize,
@@ -127,7 +126,7 @@ fn is_stack(used: usize, stack: u16) -> bool
 }
 
 /// The eight words of a block.
-#[tactic(auto, unfolding(rt_formats::specs::Reading::each))]
+#[tactic(auto, unfolding(rt_words::specs::Reading::each))]
 fn read_block_words(bytes: &[u8]) -> Result<([u16; 8], &[u8]), Stop>
     ensures { Gives (λ x. (x.0, x.1.now)) result (formats.times (formats.word any) 8 [] bytes.now) }
 {

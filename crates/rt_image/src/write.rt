@@ -1,14 +1,13 @@
 //! An image, written as its bytes.
 
 ghost use Rattle.std.specs.Prelude.{◌≡◌, ◌++◌, ◌∷◌, IfOk, OnOk};
-ghost use Rattle.rt_formats.specs.Spelling.{spell_all};
+ghost use Rattle.rt_words.specs.Spelling.{spell_all};
 ghost use Rattle.rt_image.specs.Grammar.{IsImage};
 ghost use Rattle.rt_image.specs.Ranges.{HasImageRanges};
 ghost use Rattle.rt_image.specs.Spelling.{code_spelling, data_spelling, task_spelling, tasks_spelling, image_spelling};
 
 use crate::image::{Image, ImageParts, ImageTask};
-use rt_formats::{put_name, put_word, put_words};
-use rt_words::{Bytes, Memory, Text};
+use rt_words::{Bytes, Memory, Text, put_name, put_word, put_words};
 use std::alloc::Global;
 
 /// The one spelling of an image.

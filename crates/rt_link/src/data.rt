@@ -9,9 +9,8 @@ ghost use Rattle.rt_link.specs.Ready.{AreReady};
 use crate::held::content_of;
 use crate::linking::Linking;
 use crate::patches::{padded, patched_bytes};
-use rt_formats::put_word;
 use rt_object::{Brick, Content, ObjectParts};
-use rt_words::{Bytes, Memory, Text};
+use rt_words::{Bytes, Memory, Text, put_word};
 use std::alloc::Global;
 
 /// The data part of an image: by module its strings, and then its own and ENT data bricks.

@@ -6,14 +6,14 @@ use Rattle.rt_modes.specs.declared.code.Place.{Place}
 use Rattle.rt_modes.specs.declared.code.Place.TheVariants.{Alone, Inside, Passed}
 use Rattle.rt_modes.specs.declared.mode.Mode.{Mode}
 use Rattle.rt_modes.specs.declared.mode.Mode.TheVariants as mode
-use Rattle.rt_formats.specs.Format.{Format}
-use Rattle.rt_formats.specs.Format as format
-use Rattle.rt_formats.specs.Reading.{Reader}
-use Rattle.rt_formats.specs.Reading as formats
+use Rattle.rt_words.specs.Format.{Format}
+use Rattle.rt_words.specs.Format as format
+use Rattle.rt_words.specs.Reading.{Reader}
+use Rattle.rt_words.specs.Reading as formats
 use Rattle.rt_modes.specs.Reading as reads
 use Rattle.rt_modes.specs.Spelling.{code_at, length_of, record_of, count_of}
 use Rattle.rt_modes.specs.Spelling as spec
-use Rattle.rt_formats.proofs.Right.{Right, right_nothing, right_never, right_byte, right_word, right_then, right_times, right_or_zero}
+use Rattle.rt_words.proofs.Right.{Right, right_nothing, right_never, right_byte, right_word, right_then, right_times, right_or_zero}
 
 module _ (records : ℕ) (p : Place → ℕ → Reader Mode) (P : Place → ℕ → Format Mode) (g : (place : Place) (refs : ℕ) → Right (p place refs) (P place refs)) (refs : ℕ) where
   -- a mode inside this one, of which a mode is made

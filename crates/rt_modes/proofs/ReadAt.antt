@@ -3,12 +3,12 @@ use Rattle.std.proofs.Common.{◌≡◌, ℕ, ◌+◌, ◌-◌, ◌≤◌, List,
 use Rattle.std.proofs.lemmas.List.{length-append, length-drop, take_rest, take-append-drop, drop_at, append-nil}
 use Rattle.rt_modes.specs.declared.code.Place.TheVariants.{Alone}
 use Rattle.rt_modes.specs.declared.mode.Mode.{Mode}
-use Rattle.rt_formats.specs.Reading.{Outcome}
+use Rattle.rt_words.specs.Reading.{Outcome}
 use Rattle.rt_modes.specs.Reading as reads
 use Rattle.rt_modes.specs.Spelling.{mode_format, spelling, MayStand, IsMode, StandsAt, RefusedAt}
 use Rattle.rt_modes.proofs.ModeReads.{right_mode}
-use Rattle.rt_formats.proofs.Right.{ok, err, read_same, same_err}
-use Rattle.rt_formats.proofs.Spelled.{AreBytes, bytes_after}
+use Rattle.rt_words.proofs.Right.{ok, err, read_same, same_err}
+use Rattle.rt_words.proofs.Spelled.{AreBytes, bytes_after}
 use Rattle.rt_modes.proofs.Spelled.{fits_stands, stands_fits}
 use Rattle.rt_modes.proofs.Within.{in_mode}
 

@@ -16,9 +16,9 @@ use Rattle.rt_modes.specs.declared.mode.Mode.TheVariants as mode
 use Rattle.rt_modes.specs.declared.mode.Mode.TheVariants.{rolls-Byte, rolls-Int, rolls-Frac, rolls-Label, rolls-Ref, rolls-RefArray, rolls-Array, rolls-Record, rolls-Proc}
 use Rattle.rt_modes.specs.FullMode.{joined}
 use Rattle.rt_modes.proofs.Modes.{out_byte, out_int, out_frac, out_label, out_record, out_ref, out_ref_array, out_array, out_proc}
-use Rattle.rt_formats.specs.Format.{Format, times, or_zero}
-use Rattle.rt_formats.specs.Spelling.{spell_all}
-use Rattle.rt_formats.proofs.Spelled.{AreBytes, bytes_left, true_is, test_there, test_back, IsSpelled, spelled_times}
+use Rattle.rt_words.specs.Format.{Format, times, or_zero}
+use Rattle.rt_words.specs.Spelling.{spell_all}
+use Rattle.rt_words.proofs.Spelled.{AreBytes, bytes_left, true_is, test_there, test_back, IsSpelled, spelled_times}
 use Rattle.rt_modes.specs.Spelling.{MayStand, mode_format, mode_of, inside, StandsInside, OneMayStand, IsLength, behind, where_may, is_alone, is_not_passed, spelling, code_of, code_at, may_stand, result_spelling}
 use Rattle.rt_words.specs.Bytes.{word_bytes}
 

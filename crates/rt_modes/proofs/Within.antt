@@ -1,7 +1,7 @@
 -- What the format of a mode leaves, and the field that it refuses, lie within the bytes that stand there.
 use Rattle.std.proofs.Common.{ℕ, zero, suc, ◌-◌, []}
-use Rattle.rt_formats.specs.Format.{Format, nothing, byte, word, ◌>>=◌, times, or_zero}
-use Rattle.rt_formats.proofs.Within.{Within, in_nothing, in_never, in_byte, in_word, in_then, in_times, in_or_zero}
+use Rattle.rt_words.specs.Format.{Format, nothing, byte, word, ◌>>=◌, times, or_zero}
+use Rattle.rt_words.proofs.Within.{Within, in_nothing, in_never, in_byte, in_word, in_then, in_times, in_or_zero}
 use Rattle.rt_modes.specs.declared.code.Code.{Code}
 use Rattle.rt_modes.specs.declared.code.Code.TheVariants as code
 use Rattle.rt_modes.specs.declared.code.Place.{Place}

@@ -1,6 +1,6 @@
 -- The mode that stands at a place as a function from the bytes there.
 use Rattle.std.specs.Prelude.{ℕ, zero, suc, ◌-◌, []}
-use Rattle.rt_formats.specs.Reading.{Reader, ◌>>=◌, nothing, never, byte, word, times, or_zero}
+use Rattle.rt_words.specs.Reading.{Reader, ◌>>=◌, nothing, never, byte, word, times, or_zero}
 use Rattle.rt_modes.specs.declared.code.Code.{Code}
 use Rattle.rt_modes.specs.declared.code.Code.TheVariants as code
 use Rattle.rt_modes.specs.declared.code.Place.{Place}

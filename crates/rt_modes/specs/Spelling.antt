@@ -12,7 +12,7 @@ use Rattle.rt_modes.specs.declared.mode.Mode.TheOpen.{Mode-F}
 use Rattle.rt_modes.specs.declared.mode.Mode.TheFolds.{fold-Mode}
 use Rattle.rt_modes.specs.declared.mode.Mode.TheVariants as mode
 use Rattle.rt_modes.specs.FullMode.{joined}
-use Rattle.rt_formats.specs.Format.{Format, nothing, never, byte, word, where_true, within, ◌>>=◌, times, or_zero}
+use Rattle.rt_words.specs.Format.{Format, nothing, never, byte, word, where_true, within, ◌>>=◌, times, or_zero}
 use Rattle.rt_words.specs.Bytes.{word_bytes}
 
 -- ---- the spelling

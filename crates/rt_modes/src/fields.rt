@@ -1,11 +1,11 @@
 //! Fields of one byte or one word.
 
-ghost use Rattle.rt_formats.specs.Reading as reads;
-ghost use Rattle.rt_formats.specs.Reading.{Gives};
+ghost use Rattle.rt_words.specs.Reading as reads;
+ghost use Rattle.rt_words.specs.Reading.{Gives};
 ghost use Rattle.rt_modes.specs.Spelling.{code_at, record_of, count_of};
 
 use crate::code::{Code, Place, code_at};
-use rt_formats::{Stop, front_word};
+use rt_words::{Stop, front_word};
 
 /// The code of a mode at a place where so many more modes may open, and so many more REF stand in the row.
 pub fn code(place: Place, levels: usize, refs: usize, bytes: &[u8]) -> Result<(Code, &[u8]), Stop>

@@ -2,8 +2,8 @@
 
 ghost use Rattle.std.specs.Prelude.{◌≡◌, ◌≤◌, ◌-◌, ◌⊎◌, [], length, IfOk, IfErr, Ok, Err};
 ghost use Rattle.rt_modes.specs.Reading as reads;
-ghost use Rattle.rt_formats.specs.Reading.{Gives};
-ghost use Rattle.rt_formats.specs.Reading as formats;
+ghost use Rattle.rt_words.specs.Reading.{Gives};
+ghost use Rattle.rt_words.specs.Reading as formats;
 ghost use Rattle.rt_modes.specs.Spelling.{StandsAt, RefusedAt, Faults};
 ghost use Rattle.rt_modes.specs.declared.mode.Mode.{Mode};
 ghost use Rattle.rt_modes.specs.declared.fault.ModeFault.TheVariants as fault;
@@ -12,8 +12,7 @@ use crate::code::{Code, Place};
 use crate::fault::ModeFault;
 use crate::fields::{code, count, record};
 use crate::mode::Mode;
-use rt_formats::{Stop, read_word_within};
-use rt_words::{Boxed, List, Memory};
+use rt_words::{Boxed, List, Memory, Stop, read_word_within};
 use std::alloc::Global;
 
 /// How many modes may open in one another.
@@ -163,7 +162,7 @@ fn proc_of(alloc: Global, parameters: List<Mode>, answer: Option<Mode>) -> Resul
 
 /// So many modes of parameters.
 #[cycle(mode)]
-#[tactic(auto, unfolding(rt_formats::specs::Reading::each))]
+#[tactic(auto, unfolding(rt_words::specs::Reading::each))]
 fn parameters(
     alloc: Global,
     records: u16,

@@ -1,7 +1,7 @@
 //! The spelling of a mode in an object.
 
 ghost use Rattle.std.specs.Prelude.{◌≡◌, ◌∷◌, ◌++◌, OnOk, OnErr};
-ghost use Rattle.rt_formats.specs.Spelling.{Grew};
+ghost use Rattle.rt_words.specs.Spelling.{Grew};
 ghost use Rattle.rt_modes.specs.Parts.{Adds, parts_after, part_spelling};
 ghost use Rattle.rt_modes.specs.Spelling.{spelling};
 ghost use Rattle.rt_words.specs.Bytes.{word_bytes};

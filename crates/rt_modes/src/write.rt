@@ -3,7 +3,7 @@
 ghost use Rattle.std.specs.Prelude.{◌≡◌, ◌++◌, OnOk, OnErr};
 ghost use Rattle.rt_modes.specs.FullMode.{FullMode, FullData};
 ghost use Rattle.rt_modes.specs.Left.{text_of};
-ghost use Rattle.rt_formats.specs.Spelling.{Grew};
+ghost use Rattle.rt_words.specs.Spelling.{Grew};
 
 use crate::mode::{Field, Mode, ModeTable};
 use crate::pieces::{Pieces, Todo};

@@ -4,7 +4,7 @@ use Rattle.std.specs.List.{slice_get, list_any, AllByRecursion}
 use Rattle.std.specs.Str.{bytes_eq}
 use Rattle.std.proofs.lemmas.Option.{slice_get_within}
 use Rattle.std.proofs.lemmas.Slice.Eq.{bytes_eq-Decides}
-use Rattle.rt_formats.proofs.Spelled.{AllStand}
+use Rattle.rt_words.proofs.Spelled.{AllStand}
 use Rattle.rt_object.specs.Grammar.{is_new}
 use Rattle.rt_object.specs.Ranges.{AreDifferent, Rise}
 

@@ -1,7 +1,7 @@
 -- The spelling of a mode is bytes.
 use Rattle.std.proofs.Common.{◌≡◌, ℕ, zero, suc, ◌^◌, ◌≤◌, List, [], ◌∷◌, map, Some, None, refl, sym, subst, arith}
 use Rattle.std.specs.List.{AllByRecursion}
-use Rattle.rt_formats.proofs.Spelled.{AreBytes, bytes_append, word_are_bytes}
+use Rattle.rt_words.proofs.Spelled.{AreBytes, bytes_append, word_are_bytes}
 use Rattle.rt_modes.specs.FullMode.{joined}
 use Rattle.rt_modes.specs.Spelling.{MayStand, StandsInside, OneMayStand, spelling, one_spelling}
 use Rattle.rt_modes.specs.declared.code.Place.{Place}

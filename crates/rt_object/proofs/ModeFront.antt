@@ -1,8 +1,8 @@
 -- A mode is read back whatever follows it.
 use Rattle.std.proofs.Common.{◌≡◌, ℕ, zero, suc, ◌-◌, List, [], ◌∷◌, ◌++◌, Some, inl, inr, refl, sym, ap, ◌∙◌}
-use Rattle.rt_formats.specs.Format.{Format, nothing, byte, word, ◌>>=◌, times, or_zero}
-use Rattle.rt_formats.specs.Laws.{IsReadBack}
-use Rattle.rt_formats.proofs.Front.{front_nothing, front_never, front_byte, front_word, front_then, front_times}
+use Rattle.rt_words.specs.Format.{Format, nothing, byte, word, ◌>>=◌, times, or_zero}
+use Rattle.rt_words.specs.FormatLaws.{IsReadBack}
+use Rattle.rt_words.proofs.Front.{front_nothing, front_never, front_byte, front_word, front_then, front_times}
 use Rattle.rt_modes.specs.declared.code.Code.{Code}
 use Rattle.rt_modes.specs.declared.code.Code.TheVariants as code
 use Rattle.rt_modes.specs.declared.code.Place.{Place}

@@ -1,9 +1,9 @@
 -- An object is read back whatever follows it.
 use Rattle.std.proofs.Common.{ℕ, Bool, false, List, [], ◌∷◌, ◌++◌, length, map, codes}
-use Rattle.rt_formats.specs.Format.{Format, nothing, byte, word, block, tag, name, where_true, any, within, ◌>>=◌, each, times, passing}
+use Rattle.rt_words.specs.Format.{Format, nothing, byte, word, block, tag, name, where_true, any, within, ◌>>=◌, each, times, passing}
 use Rattle.rt_modes.specs.Spelling.{mode_format}
-use Rattle.rt_formats.specs.Laws.{IsReadBack}
-use Rattle.rt_formats.proofs.Front.{front_nothing, front_byte, front_word, front_block, front_tag, front_name, front_then, front_each, front_times, front_passing}
+use Rattle.rt_words.specs.FormatLaws.{IsReadBack}
+use Rattle.rt_words.proofs.Front.{front_nothing, front_byte, front_word, front_block, front_tag, front_name, front_then, front_each, front_times, front_passing}
 use Rattle.rt_object.proofs.ModeFront.{front_mode}
 use Rattle.rt_modes.specs.declared.mode.Field.{Field}
 use Rattle.rt_modes.specs.declared.mode.RecordDef.{RecordDef}

@@ -1,9 +1,9 @@
 -- Laws of the bytes of objects.
 use Rattle.std.proofs.Common.{◌≡◌, ℕ, ◌-◌, ◌⊎◌, inl, inr, refl, List, [], ◌∷◌, ◌++◌, length, sym, ap, subst, ◌∙◌, arith}
 use Rattle.std.proofs.lemmas.List.{append-nil}
-use Rattle.rt_formats.specs.Format.{Format, Spell, whole}
+use Rattle.rt_words.specs.Format.{Format, Spell, whole}
 use Rattle.rt_object.specs.Grammar.{object_format, IsNoObject, IsOfVersion}
-use Rattle.rt_formats.proofs.Within.{in_whole}
+use Rattle.rt_words.proofs.Within.{in_whole}
 use Rattle.std.proofs.lemmas.Bool.Decides.{eqb_tells}
 use Rattle.rt_object.proofs.ObjectWithin.{in_object}
 use Rattle.rt_object.specs.Laws.{AreOneOfThree, NoneBegins, NeverBoth, HaveOnePlace, HaveOneVersion}

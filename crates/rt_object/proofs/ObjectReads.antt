@@ -1,9 +1,9 @@
 -- The readers of the parts of an object are right for their formats.
 use Rattle.std.proofs.Common.{ℕ, Bool, false, List, [], length, map}
-use Rattle.rt_formats.specs.Format.{Format, where_true, any, within}
-use Rattle.rt_formats.specs.Format as format
-use Rattle.rt_formats.specs.Reading as formats
-use Rattle.rt_formats.proofs.Right.{Right, right_nothing, right_byte, right_word, right_block, right_name, right_then, right_each, right_times, right_passing}
+use Rattle.rt_words.specs.Format.{Format, where_true, any, within}
+use Rattle.rt_words.specs.Format as format
+use Rattle.rt_words.specs.Reading as formats
+use Rattle.rt_words.proofs.Right.{Right, right_nothing, right_byte, right_word, right_block, right_name, right_then, right_each, right_times, right_passing}
 use Rattle.rt_modes.proofs.ModeReads.{right_mode}
 use Rattle.rt_modes.specs.Spelling.{mode_format}
 use Rattle.rt_modes.specs.declared.mode.Field.{Field}

@@ -1,9 +1,9 @@
 -- What is refused of an object lies within its bytes.
 use Rattle.std.proofs.Common.{ℕ, Bool, false, List, [], ◌∷◌, ◌++◌, length, map, codes}
-use Rattle.rt_formats.specs.Format.{Format, nothing, byte, word, block, tag, name, where_true, any, within, ◌>>=◌, each, times, passing}
+use Rattle.rt_words.specs.Format.{Format, nothing, byte, word, block, tag, name, where_true, any, within, ◌>>=◌, each, times, passing}
 use Rattle.rt_modes.specs.Spelling.{mode_format}
 use Rattle.std.proofs.Common.{inl, inr, take, arith}
-use Rattle.rt_formats.proofs.Within.{Within, in_nothing, in_byte, in_word, in_block, in_tag, in_name, in_then, in_each, in_times, in_passing}
+use Rattle.rt_words.proofs.Within.{Within, in_nothing, in_byte, in_word, in_block, in_tag, in_name, in_then, in_each, in_times, in_passing}
 use Rattle.rt_modes.proofs.Within.{in_mode}
 use Rattle.rt_modes.specs.declared.mode.Field.{Field}
 use Rattle.rt_modes.specs.declared.mode.RecordDef.{RecordDef}

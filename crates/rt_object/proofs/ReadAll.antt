@@ -1,8 +1,8 @@
 -- What reading all of some bytes says of them.
 use Rattle.std.proofs.Common.{◌≡◌, ℕ, ◌≤◌, List, [], length, sym, ◌∙◌}
-use Rattle.rt_formats.specs.Format.{whole}
-use Rattle.rt_formats.proofs.Spelled.{AreBytes}
-use Rattle.rt_formats.proofs.Within.{in_whole}
+use Rattle.rt_words.specs.Format.{whole}
+use Rattle.rt_words.proofs.Spelled.{AreBytes}
+use Rattle.rt_words.proofs.Within.{in_whole}
 use Rattle.rt_object.specs.Grammar.{object_format, IsObject, IsOfVersion}
 use Rattle.rt_object.specs.declared.object.ObjectParts.{ObjectParts}
 use Rattle.rt_object.proofs.ObjectLaws.{fourth}

@@ -1,11 +1,11 @@
 -- What reading the records of an object answers, and what reading all of it.
 use Rattle.std.proofs.Common.{◌≡◌, ℕ, ◌+◌, ◌<◌, ◌⊎◌, inl, inr, List, [], ◌∷◌, ◌++◌, length, take, codes, Result, Ok, Err, refl, sym, ap, subst, arith}
-use Rattle.rt_formats.specs.Format.{Format, nothing, word, tag, name, any, ◌>>=◌, each, whole}
-use Rattle.rt_formats.specs.Reading as formats
-use Rattle.rt_formats.specs.Reading.{Fails}
-use Rattle.rt_formats.specs.declared.stop.Stop.{Stop}
-use Rattle.rt_formats.specs.declared.stop.Stop.TheVariants as stop
-use Rattle.rt_formats.proofs.Right.{Right, same_err, right_nothing, right_word, right_tag, right_name, right_then, right_each}
+use Rattle.rt_words.specs.Format.{Format, nothing, word, tag, name, any, ◌>>=◌, each, whole}
+use Rattle.rt_words.specs.Reading as formats
+use Rattle.rt_words.specs.Reading.{Fails}
+use Rattle.rt_words.specs.declared.stop.Stop.{Stop}
+use Rattle.rt_words.specs.declared.stop.Stop.TheVariants as stop
+use Rattle.rt_words.proofs.Right.{Right, same_err, right_nothing, right_word, right_tag, right_name, right_then, right_each}
 use Rattle.rt_modes.specs.declared.mode.RecordDef.{RecordDef}
 use Rattle.rt_object.specs.Grammar.{IsFirstBad, object_format}
 use Rattle.rt_object.specs.Grammar as spec

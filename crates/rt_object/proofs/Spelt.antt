@@ -3,9 +3,9 @@ use Rattle.std.proofs.Common.{◌≡◌, ℕ, ◌%◌, ◌^◌, ◌<◌, ◌≤�
 use Rattle.std.specs.List.{AllByRecursion}
 use Rattle.std.proofs.lemmas.Bool.{leb-true, le-leb, ltb-true, lt-ltb}
 use Rattle.rt_words.specs.Bytes.{word_bytes}
-use Rattle.rt_formats.specs.Format.{Format, nothing, byte, word, block, tag, name, where_true, any, within, ◌>>=◌, each, times, passing}
-use Rattle.rt_formats.specs.Spelling.{spell_all, words_bytes, name_bytes}
-use Rattle.rt_formats.proofs.Spelled.{AreBytes, bytes_left, bytes_append, word_are_bytes, all_are_bytes, IsSpelled, spelled_word, spelled_byte, spelled_name, spelled_block, spelled_times, any_is, AllStand, each_there, each_back, all_stand, stand_all, true_is, true_back}
+use Rattle.rt_words.specs.Format.{Format, nothing, byte, word, block, tag, name, where_true, any, within, ◌>>=◌, each, times, passing}
+use Rattle.rt_words.specs.Spelling.{spell_all, words_bytes, name_bytes}
+use Rattle.rt_words.proofs.Spelled.{AreBytes, bytes_left, bytes_append, word_are_bytes, all_are_bytes, IsSpelled, spelled_word, spelled_byte, spelled_name, spelled_block, spelled_times, any_is, AllStand, each_there, each_back, all_stand, stand_all, true_is, true_back}
 use Rattle.rt_object.specs.Ranges.{IsWord, IsName}
 use Rattle.rt_object.specs.Grammar.{below}
 use Rattle.rt_object.specs.Spelling.{count_spelling, counted_spelling}

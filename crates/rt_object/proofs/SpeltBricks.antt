@@ -3,9 +3,9 @@ use Rattle.std.proofs.Common.{◌≡◌, ℕ, ◌^◌, ◌<◌, ◌≤◌, Bool,
 use Rattle.std.specs.List.{AllByRecursion}
 use Rattle.std.proofs.lemmas.Bool.Decides.{nat_tests}
 use Rattle.rt_words.specs.Bytes.{word_bytes}
-use Rattle.rt_formats.specs.Format.{Format, nothing, byte, word, name, where_true, any, within, ◌>>=◌, times, passing}
-use Rattle.rt_formats.specs.Spelling.{words_bytes, name_bytes}
-use Rattle.rt_formats.proofs.Spelled.{AreBytes}
+use Rattle.rt_words.specs.Format.{Format, nothing, byte, word, name, where_true, any, within, ◌>>=◌, times, passing}
+use Rattle.rt_words.specs.Spelling.{words_bytes, name_bytes}
+use Rattle.rt_words.proofs.Spelled.{AreBytes}
 use Rattle.rt_modes.specs.Spelling.{spelling, MayStand}
 use Rattle.rt_modes.specs.declared.mode.Field.{Field}
 use Rattle.rt_modes.specs.declared.mode.Mode.{Mode}

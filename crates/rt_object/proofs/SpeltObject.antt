@@ -2,9 +2,9 @@
 use Rattle.std.proofs.Common.{◌≡◌, ℕ, ◌^◌, ◌<◌, ◌≤◌, true, false, not, leb, List, [], ◌∷◌, ◌++◌, length, map, codes, Option, Some, None, zero, suc, refl, sym, ap, subst, arith}
 use Rattle.std.specs.List.{AllByRecursion, slice_get, list_any}
 use Rattle.rt_words.specs.Bytes.{word_bytes}
-use Rattle.rt_formats.specs.Format.{Format, nothing, word, tag, name, where_true, any, ◌>>=◌, each}
-use Rattle.rt_formats.specs.Spelling.{name_bytes}
-use Rattle.rt_formats.proofs.Spelled.{AreBytes, AllStand}
+use Rattle.rt_words.specs.Format.{Format, nothing, word, tag, name, where_true, any, ◌>>=◌, each}
+use Rattle.rt_words.specs.Spelling.{name_bytes}
+use Rattle.rt_words.proofs.Spelled.{AreBytes, AllStand}
 use Rattle.rt_modes.specs.declared.mode.RecordDef.{RecordDef}
 use Rattle.rt_object.specs.Grammar.{is_proc_content, is_proc_kind, is_proc_at, is_taken, object_format}
 use Rattle.rt_object.specs.Grammar as spec

@@ -5,9 +5,9 @@ use Rattle.std.proofs.lemmas.Bool.{eqb-true, leb-true, le-leb, ltb-true, lt-ltb}
 use Rattle.std.proofs.lemmas.Bool.Decides.{nat_tests}
 use Rattle.std.proofs.lemmas.Slice.Eq.{bytes_eq-Decides}
 use Rattle.rt_words.specs.Bytes.{word_bytes}
-use Rattle.rt_formats.specs.Format.{Format, nothing, byte, word, block, name, where_true, any, within, ◌>>=◌, passing}
-use Rattle.rt_formats.specs.Spelling.{name_bytes}
-use Rattle.rt_formats.proofs.Spelled.{AreBytes, AllStand}
+use Rattle.rt_words.specs.Format.{Format, nothing, byte, word, block, name, where_true, any, within, ◌>>=◌, passing}
+use Rattle.rt_words.specs.Spelling.{name_bytes}
+use Rattle.rt_words.proofs.Spelled.{AreBytes, AllStand}
 use Rattle.rt_modes.proofs.Spelled.{fits_stands, stands_fits}
 use Rattle.rt_modes.specs.Spelling.{spelling, mode_format, MayStand}
 use Rattle.rt_modes.specs.declared.mode.Field.{Field}

@@ -1,10 +1,10 @@
 -- What fits the format of an object is one, and so is the field that is refused; never both.
 use Rattle.std.proofs.Common.{◌≡◌, ℕ, zero, suc, ◌+◌, ◌<◌, ◌⊎◌, inl, inr, List, [], ◌∷◌, ◌++◌, length, take, codes, refl, sym, ap, subst, ◌∙◌, arith}
-use Rattle.rt_formats.specs.Format.{Format, nothing, word, tag, name, any, ◌>>=◌, each}
-use Rattle.rt_formats.specs.Format as format
-use Rattle.rt_formats.specs.Reading as formats
-use Rattle.rt_formats.proofs.Determined as determined
-use Rattle.rt_formats.proofs.Right.{Right, right_nothing, right_word, right_tag, right_name, right_then, right_each}
+use Rattle.rt_words.specs.Format.{Format, nothing, word, tag, name, any, ◌>>=◌, each}
+use Rattle.rt_words.specs.Format as format
+use Rattle.rt_words.specs.Reading as formats
+use Rattle.rt_words.proofs.Determined as determined
+use Rattle.rt_words.proofs.Right.{Right, right_nothing, right_word, right_tag, right_name, right_then, right_each}
 use Rattle.rt_modes.specs.declared.mode.RecordDef.{RecordDef}
 use Rattle.rt_object.specs.declared.object.ObjectParts.{ObjectParts}
 use Rattle.std.proofs.lemmas.List.{length-append}

@@ -5,9 +5,9 @@ use Rattle.std.specs.Cmp.Lexicographic.{slice_cmp}
 use Rattle.std.specs.List.{list_any}
 use Rattle.std.specs.Ordering.{nat_cmp}
 use Rattle.std.specs.Str.{bytes_eq}
-use Rattle.rt_formats.specs.Format.{Format}
-use Rattle.rt_formats.specs.declared.stop.Stop.{Stop}
-use Rattle.rt_formats.specs.declared.stop.Stop.TheVariants as stop
+use Rattle.rt_words.specs.Format.{Format}
+use Rattle.rt_words.specs.declared.stop.Stop.{Stop}
+use Rattle.rt_words.specs.declared.stop.Stop.TheVariants as stop
 use Rattle.rt_modes.specs.declared.mode.RecordDef.{RecordDef}
 use Rattle.rt_sizes.specs.Capped.{is_within, size_in}
 use Rattle.rt_sizes.specs.declared.size.Size.{Size}

@@ -1,7 +1,7 @@
 -- The parts of an object as functions from the bytes that stand there.
 use Rattle.std.specs.Prelude.{ℕ, Bool, false, List, [], length, map}
-use Rattle.rt_formats.specs.Format.{where_true, any, within}
-use Rattle.rt_formats.specs.Reading.{Reader, nothing, byte, word, block, name, ◌>>=◌, each, times, passing}
+use Rattle.rt_words.specs.Format.{where_true, any, within}
+use Rattle.rt_words.specs.Reading.{Reader, nothing, byte, word, block, name, ◌>>=◌, each, times, passing}
 use Rattle.rt_modes.specs.Reading as modes
 use Rattle.rt_modes.specs.declared.code.Place.TheVariants.{Alone}
 use Rattle.rt_modes.specs.declared.mode.Field.{Field}

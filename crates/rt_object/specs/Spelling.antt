@@ -1,6 +1,6 @@
 -- The bytes of an object, as they are written.
 use Rattle.std.specs.Prelude.{ℕ, ◌%◌, List, [], ◌∷◌, ◌++◌, length, codes}
-use Rattle.rt_formats.specs.Spelling.{spell_all, words_bytes, name_bytes}
+use Rattle.rt_words.specs.Spelling.{spell_all, words_bytes, name_bytes}
 use Rattle.rt_modes.specs.Spelling.{spelling}
 use Rattle.rt_modes.specs.declared.mode.Field.{Field}
 use Rattle.rt_modes.specs.declared.mode.RecordDef.{RecordDef}

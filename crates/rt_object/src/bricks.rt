@@ -1,8 +1,8 @@
 //! The bricks of an object.
 
 ghost use Rattle.std.specs.Prelude.{◌≡◌, [], ◌∷◌, ◌++◌, length, IfOk};
-ghost use Rattle.rt_formats.specs.Reading as formats;
-ghost use Rattle.rt_formats.specs.Reading.{Gives};
+ghost use Rattle.rt_words.specs.Reading as formats;
+ghost use Rattle.rt_words.specs.Reading.{Gives};
 ghost use Rattle.rt_object.specs.Grammar.{is_rrerr};
 ghost use Rattle.rt_object.specs.Known.{Knows};
 ghost use Rattle.rt_object.specs.Ranges.{brick_names, table_of};
@@ -16,13 +16,12 @@ use crate::names::{Names, read_new_name};
 use crate::object::{Brick, BrickKind, Content, External, Supplied};
 use crate::procs::read_proc;
 use crate::tag::{Kind, Sort, read_kind, read_sort};
-use rt_formats::{Stop, read_word_within};
-use rt_words::{List, Name};
+use rt_words::{List, Name, Stop, read_word_within};
 use std::alloc::Global;
 use std::collections::BTreeSet;
 
 /// So many bricks.
-#[tactic(auto, unfolding(rt_formats::specs::Reading::each))]
+#[tactic(auto, unfolding(rt_words::specs::Reading::each))]
 pub fn read_each_brick<'b>(
     alloc: Global,
     known: &Known<'_>,

@@ -1,9 +1,9 @@
 //! What an object has of a data brick.
 
 ghost use Rattle.std.specs.Prelude.{◌≡◌, true, length, IfOk};
-ghost use Rattle.rt_formats.specs.Format.{where_true};
-ghost use Rattle.rt_formats.specs.Reading as formats;
-ghost use Rattle.rt_formats.specs.Reading.{Gives};
+ghost use Rattle.rt_words.specs.Format.{where_true};
+ghost use Rattle.rt_words.specs.Reading as formats;
+ghost use Rattle.rt_words.specs.Reading.{Gives};
 ghost use Rattle.rt_object.specs.Grammar.{is_size, is_within_most, size_of};
 ghost use Rattle.rt_object.specs.Ranges.{table_of};
 ghost use Rattle.rt_object.specs.Reading as reads;
@@ -13,10 +13,9 @@ use crate::fields::read_fields;
 use crate::known::Known;
 use crate::object::DataContent;
 use crate::relocations::read_relocations;
-use rt_formats::{Stop, front_word, read_block};
 use rt_modes::Field;
 use rt_sizes::{Size, data_size};
-use rt_words::{Bytes, List};
+use rt_words::{Bytes, List, Stop, front_word, read_block};
 use std::alloc::Global;
 
 #[tactic(auto, unfolding(crate::specs::Reading::data_reader))]

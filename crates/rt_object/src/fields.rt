@@ -1,17 +1,16 @@
 //! The fields of a record or of a data brick.
 
 ghost use Rattle.std.specs.Prelude.{◌≡◌, [], ◌∷◌, ◌++◌, IfOk};
-ghost use Rattle.rt_formats.specs.Reading as formats;
-ghost use Rattle.rt_formats.specs.Reading.{Gives};
+ghost use Rattle.rt_words.specs.Reading as formats;
+ghost use Rattle.rt_words.specs.Reading.{Gives};
 ghost use Rattle.rt_object.specs.Known.{Knows};
 ghost use Rattle.rt_object.specs.Ranges.{field_names};
 ghost use Rattle.rt_object.specs.Reading as reads;
 
 use crate::modes::read_field_mode;
 use crate::names::{Names, read_new_name};
-use rt_formats::{Stop, read_word};
 use rt_modes::Field;
-use rt_words::List;
+use rt_words::{List, Stop, read_word};
 use std::alloc::Global;
 use std::collections::BTreeSet;
 
@@ -30,7 +29,7 @@ pub fn read_fields(
 }
 
 /// So many fields.
-#[tactic(auto, unfolding(rt_formats::specs::Reading::each))]
+#[tactic(auto, unfolding(rt_words::specs::Reading::each))]
 fn read_each_field(
     alloc: Global,
     records: u16,

@@ -1,13 +1,13 @@
 //! Modes in front of bytes.
 
 ghost use Rattle.std.specs.Prelude.{◌≡◌};
-ghost use Rattle.rt_formats.specs.Reading as formats;
-ghost use Rattle.rt_formats.specs.Reading.{Gives};
+ghost use Rattle.rt_words.specs.Reading as formats;
+ghost use Rattle.rt_words.specs.Reading.{Gives};
 ghost use Rattle.rt_object.specs.Grammar.{is_no_label, is_proc, is_value, may_be};
 ghost use Rattle.rt_object.specs.Reading as reads;
 
-use rt_formats::Stop;
 use rt_modes::{Mode, ModeFault, read_mode};
+use rt_words::Stop;
 use std::alloc::Global;
 
 /// A mode over so many records.

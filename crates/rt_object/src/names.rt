@@ -1,13 +1,12 @@
 //! The names of a list, of which no two are one.
 
 ghost use Rattle.std.specs.Prelude.{◌≡◌, List, ℕ, [], ◌∷◌, ◌++◌, OnOk, IfOk};
-ghost use Rattle.rt_formats.specs.Reading as formats;
-ghost use Rattle.rt_formats.specs.Reading.{Gives};
+ghost use Rattle.rt_words.specs.Reading as formats;
+ghost use Rattle.rt_words.specs.Reading.{Gives};
 ghost use Rattle.rt_object.specs.Grammar.{is_new};
 ghost use Rattle.rt_object.specs.Known.{Knows};
 
-use rt_formats::{Stop, read_name};
-use rt_words::{Memory, Name};
+use rt_words::{Memory, Name, Stop, read_name};
 use std::alloc::Global;
 use std::collections::BTreeSet;
 

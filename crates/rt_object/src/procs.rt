@@ -1,8 +1,8 @@
 //! What an object has of a procedure.
 
 ghost use Rattle.std.specs.Prelude.{◌≡◌, [], length};
-ghost use Rattle.rt_formats.specs.Reading as formats;
-ghost use Rattle.rt_formats.specs.Reading.{Gives};
+ghost use Rattle.rt_words.specs.Reading as formats;
+ghost use Rattle.rt_words.specs.Reading.{Gives};
 ghost use Rattle.rt_object.specs.Reading as reads;
 
 use crate::known::Known;
@@ -10,8 +10,7 @@ use crate::modes::{read_proc_mode, read_value_mode};
 use crate::object::{Call, ProcContent, Relocation, Target};
 use crate::relocations::{read_below, read_relocations};
 use crate::tag::{Called, read_called};
-use rt_formats::{Stop, read_bytes_within, read_word, read_word_within, read_words};
-use rt_words::{Bytes, List};
+use rt_words::{Bytes, List, Stop, read_bytes_within, read_word, read_word_within, read_words};
 use std::alloc::Global;
 
 /// The words of a code, and one mark for each.
@@ -94,7 +93,7 @@ fn read_calls<'b>(
 }
 
 /// So many calls.
-#[tactic(auto, unfolding(rt_formats::specs::Reading::each))]
+#[tactic(auto, unfolding(rt_words::specs::Reading::each))]
 fn read_each_call<'b>(
     alloc: Global,
     known: &Known<'_>,

@@ -1,9 +1,9 @@
 //! An object, read from its bytes.
 
 ghost use Rattle.std.specs.Prelude.{◌≡◌, ◌⊎◌, ◌≤◌, ◌<◌, ◌^◌, ℕ, [], length, IfOk, IfErr, IfSome, IfNone, OnOk, Ok, Err};
-ghost use Rattle.rt_formats.specs.Format.{whole};
-ghost use Rattle.rt_formats.specs.Reading as formats;
-ghost use Rattle.rt_formats.specs.Reading.{Gives};
+ghost use Rattle.rt_words.specs.Format.{whole};
+ghost use Rattle.rt_words.specs.Reading as formats;
+ghost use Rattle.rt_words.specs.Reading.{Gives};
 ghost use Rattle.rt_object.specs.Grammar.{IsNoObject, IsObject, IsOfVersion, Faults, object_format};
 ghost use Rattle.rt_object.specs.Known.{Meets};
 ghost use Rattle.rt_object.specs.Ranges.{table_of};
@@ -19,9 +19,8 @@ use crate::object::{Brick, Object, ObjectParts};
 use crate::records::read_records;
 use crate::strings::read_strings;
 use crate::taken::read_taken;
-use rt_formats::{Stop, read_end, read_name, read_tag, read_word};
 use rt_modes::{ModeTable, RecordDef};
-use rt_words::{Bytes, List, Name};
+use rt_words::{Bytes, List, Name, Stop, read_end, read_name, read_tag, read_word};
 use std::alloc::Global;
 
 /// The parts of an object behind its records: strings, bricks, and the numbers of the procedures that stand

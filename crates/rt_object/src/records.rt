@@ -1,9 +1,9 @@
 //! The records of an object.
 
 ghost use Rattle.std.specs.Prelude.{◌≡◌, ◌⊎◌, ◌<◌, ◌^◌, List, ℕ, [], ◌∷◌, ◌++◌, map, length, Ok, IfOk};
-ghost use Rattle.rt_formats.specs.Reading as formats;
-ghost use Rattle.rt_formats.specs.Reading.{Gives};
-ghost use Rattle.rt_formats.specs.declared.stop.Stop.TheVariants as stop;
+ghost use Rattle.rt_words.specs.Reading as formats;
+ghost use Rattle.rt_words.specs.Reading.{Gives};
+ghost use Rattle.rt_words.specs.declared.stop.Stop.TheVariants as stop;
 ghost use Rattle.rt_modes.specs.declared.mode.RecordDef.{RecordDef};
 ghost use Rattle.rt_object.specs.Grammar.{records_format};
 ghost use Rattle.rt_object.specs.Known.{Knows, Meets};
@@ -13,9 +13,8 @@ ghost use Rattle.rt_object.specs.Reading as reads;
 use crate::bad::first_bad;
 use crate::fields::read_fields;
 use crate::names::{Names, read_new_name};
-use rt_formats::{Stop, read_word};
 use rt_modes::RecordDef;
-use rt_words::List;
+use rt_words::{List, Stop, read_word};
 use std::alloc::Global;
 use std::collections::BTreeSet;
 
@@ -45,7 +44,7 @@ fn refused_behind(alloc: Global, records: u16, count: usize, bytes: &[u8]) -> St
 }
 
 /// The first of so many records.
-#[tactic(auto, unfolding(rt_formats::specs::Reading::each))]
+#[tactic(auto, unfolding(rt_words::specs::Reading::each))]
 fn read_each_record(
     alloc: Global,
     records: u16,

@@ -1,9 +1,9 @@
 //! The relocations of a part.
 
 ghost use Rattle.std.specs.Prelude.{◌≡◌, ◌≤◌, [], IfOk, IsTrue};
-ghost use Rattle.rt_formats.specs.Format.{where_true};
-ghost use Rattle.rt_formats.specs.Reading as formats;
-ghost use Rattle.rt_formats.specs.Reading.{Gives};
+ghost use Rattle.rt_words.specs.Format.{where_true};
+ghost use Rattle.rt_words.specs.Reading as formats;
+ghost use Rattle.rt_words.specs.Reading.{Gives};
 ghost use Rattle.rt_object.specs.Grammar.{below, is_place};
 ghost use Rattle.rt_object.specs.Known.{AreBehind};
 ghost use Rattle.rt_object.specs.Reading as reads;
@@ -11,8 +11,7 @@ ghost use Rattle.rt_object.specs.Reading as reads;
 use crate::known::Known;
 use crate::object::{Relocated, Relocation};
 use crate::tag::{Named, read_named};
-use rt_formats::{Stop, front_word, read_word, read_word_within};
-use rt_words::List;
+use rt_words::{List, Stop, front_word, read_word, read_word_within};
 use std::alloc::Global;
 
 /// Relocations behind their number, in a part of so many places, of which each is a multiple of `step`.
@@ -32,7 +31,7 @@ pub fn read_relocations<'b>(
 }
 
 /// So many relocations.
-#[tactic(auto, unfolding(rt_formats::specs::Reading::each))]
+#[tactic(auto, unfolding(rt_words::specs::Reading::each))]
 fn read_each_relocation<'b>(
     alloc: Global,
     known: &Known<'_>,

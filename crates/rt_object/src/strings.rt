@@ -1,12 +1,11 @@
 //! The strings of an object.
 
 ghost use Rattle.std.specs.Prelude.{◌≡◌, ◌<◌, ◌^◌, [], length, IfOk};
-ghost use Rattle.rt_formats.specs.Reading as formats;
-ghost use Rattle.rt_formats.specs.Reading.{Gives};
+ghost use Rattle.rt_words.specs.Reading as formats;
+ghost use Rattle.rt_words.specs.Reading.{Gives};
 ghost use Rattle.rt_object.specs.Reading as reads;
 
-use rt_formats::{Stop, read_block, read_word, read_word_within};
-use rt_words::{Bytes, List};
+use rt_words::{Bytes, List, Stop, read_block, read_word, read_word_within};
 use std::alloc::Global;
 
 /// Strings behind their number.
@@ -20,7 +19,7 @@ pub fn read_strings(alloc: Global, bytes: &[u8]) -> Result<(List<Bytes>, &[u8]),
 }
 
 /// So many strings.
-#[tactic(auto, unfolding(rt_formats::specs::Reading::each))]
+#[tactic(auto, unfolding(rt_words::specs::Reading::each))]
 fn read_each_string(alloc: Global, count: usize, bytes: &[u8]) -> Result<(List<Bytes>, &[u8]), Stop>
     ensures strings { Gives (λ x. (x.0, x.1.now)) result (formats.times reads.string_reader count [] bytes.now) }
     ensures number { IfOk result (λ x. length x.0 ≡ count) }

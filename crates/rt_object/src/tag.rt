@@ -1,10 +1,10 @@
 //! What the bytes say that begin a brick, a target or the number of a relocation.
 
-ghost use Rattle.rt_formats.specs.Reading as reads;
-ghost use Rattle.rt_formats.specs.Reading.{Gives};
+ghost use Rattle.rt_words.specs.Reading as reads;
+ghost use Rattle.rt_words.specs.Reading.{Gives};
 ghost use Rattle.rt_object.specs.Grammar.{kind_of, sort_in, called_of, named_of};
 
-use rt_formats::Stop;
+use rt_words::Stop;
 
 /// Whose a brick is.
 #[derive(Clone, Copy)]

@@ -1,16 +1,15 @@
 //! The procedures of an object that stand as values.
 
 ghost use Rattle.std.specs.Prelude.{◌≡◌, ◌≤◌, [], IfOk, IsTrue};
-ghost use Rattle.rt_formats.specs.Reading as formats;
-ghost use Rattle.rt_formats.specs.Reading.{Gives};
+ghost use Rattle.rt_words.specs.Reading as formats;
+ghost use Rattle.rt_words.specs.Reading.{Gives};
 ghost use Rattle.rt_object.specs.Grammar.{is_proc_at, is_proc_content, is_proc_kind, is_taken};
 ghost use Rattle.rt_object.specs.Known.{AreAbove};
 ghost use Rattle.rt_object.specs.Reading as reads;
 ghost use Rattle.std.specs.List.{slice_get};
 
 use crate::object::{Brick, BrickKind, Content, External, Supplied};
-use rt_formats::{Stop, front_word, read_word};
-use rt_words::List;
+use rt_words::{List, Stop, front_word, read_word};
 use std::alloc::Global;
 
 /// Numbers of procedures behind their number, rising.
@@ -27,7 +26,7 @@ pub fn read_taken<'b>(
 }
 
 /// So many numbers.
-#[tactic(auto, unfolding(rt_formats::specs::Reading::each))]
+#[tactic(auto, unfolding(rt_words::specs::Reading::each))]
 fn read_each_taken<'b>(
     alloc: Global,
     bricks: &[Brick],

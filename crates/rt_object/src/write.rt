@@ -1,15 +1,14 @@
 //! An object, written as its bytes.
 
 ghost use Rattle.std.specs.Prelude.{◌≡◌, ◌++◌, IfOk, OnOk};
-ghost use Rattle.rt_formats.specs.Spelling.{spell_all};
+ghost use Rattle.rt_words.specs.Spelling.{spell_all};
 ghost use Rattle.rt_object.specs.Grammar.{IsObject};
 ghost use Rattle.rt_object.specs.Spelling.{block_spelling, count_spelling, counted_spelling, field_spelling, fields_spelling, lists_spelling, object_spelling, record_spelling};
 
 use crate::object::{Object, ObjectParts};
 use crate::write_bricks::put_bricks;
-use rt_formats::{put_name, put_word, put_words};
 use rt_modes::{Field, RecordDef, spell_mode};
-use rt_words::{Bytes, Memory, Text};
+use rt_words::{Bytes, Memory, Text, put_name, put_word, put_words};
 use std::alloc::Global;
 
 /// The one spelling of an object.

@@ -1,7 +1,7 @@
 //! The bricks of an object, written as their bytes.
 
 ghost use Rattle.std.specs.Prelude.{◌≡◌, ◌∷◌, ◌++◌, OnOk};
-ghost use Rattle.rt_formats.specs.Spelling.{spell_all};
+ghost use Rattle.rt_words.specs.Spelling.{spell_all};
 ghost use Rattle.rt_object.specs.Spelling.{brick_spelling, call_spelling, code_spelling, content_sort, content_spelling, counted_spelling, data_spelling, external_sort, external_spelling, holds_spelling, kind_spelling, proc_spelling, relocated_spelling, relocation_spelling, relocations_spelling, supplied_sort, supplied_spelling, target_spelling};
 ghost use Rattle.rt_words.specs.Bytes.{word_bytes};
 
@@ -10,9 +10,8 @@ use crate::object::{
     Supplied, Target,
 };
 use crate::write::{put_block, put_count, put_fields};
-use rt_formats::{put_name, put_word, put_words};
 use rt_modes::spell_mode;
-use rt_words::{Memory, Text};
+use rt_words::{Memory, Text, put_name, put_word, put_words};
 use std::alloc::Global;
 
 /// Bricks behind their number.

@@ -6,3 +6,7 @@ pub mod Named
 pub mod formers
 pub mod Operators
 pub mod Laws
+pub mod Format
+pub mod FormatLaws
+pub mod Reading
+pub mod Spelling

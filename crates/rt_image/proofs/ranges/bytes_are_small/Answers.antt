@@ -1,4 +1,4 @@
-use Rattle.rt_formats.proofs.Spelled.{fit_bytes}
+use Rattle.rt_words.proofs.Spelled.{fit_bytes}
 use Rattle.rt_image.proofs.ranges.bytes_are_small.Goals as goal
 
 pub returns : goal.returns

@@ -1,6 +1,6 @@
 use Rattle.std.proofs.Common.{inl, refl}
-use Rattle.rt_formats.proofs.Spelled.{fit_bytes}
-use Rattle.rt_formats.proofs.Whole as whole
+use Rattle.rt_words.proofs.Spelled.{fit_bytes}
+use Rattle.rt_words.proofs.Whole as whole
 use Rattle.rt_image.specs.Grammar.{image_format}
 use Rattle.rt_image.specs.Reading as reads
 use Rattle.rt_image.proofs.Fronts.{in_image}

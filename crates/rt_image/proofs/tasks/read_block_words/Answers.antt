@@ -1,8 +1,8 @@
 use Rattle.std.proofs.Common.{take, ◌∙◌, arith, length-set}
 use Rattle.std.proofs.lemmas.List.{take_more_set}
-use Rattle.rt_formats.specs.Format.{any}
-use Rattle.rt_formats.specs.Reading as formats
-use Rattle.rt_formats.proofs.Turning.{each_turn}
+use Rattle.rt_words.specs.Format.{any}
+use Rattle.rt_words.specs.Reading as formats
+use Rattle.rt_words.proofs.Turning.{each_turn}
 use Rattle.rt_image.proofs.tasks.read_block_words.Goals as goal
 
 pub loop-number-preserved : goal.loop-number-preserved

@@ -1,6 +1,6 @@
 use Rattle.std.proofs.Common.{◌≡◌, ◌-◌, [], take, length}
-use Rattle.rt_formats.specs.Format.{any}
-use Rattle.rt_formats.specs.Reading as formats
+use Rattle.rt_words.specs.Format.{any}
+use Rattle.rt_words.specs.Reading as formats
 use Rattle.rt_image.proofs.tasks.read_block_words.Given as goal
 
 -- All are those found and as many more as there are turns left.

@@ -1,6 +1,6 @@
 use Rattle.std.proofs.Common.{◌≡◌, ◌+◌, ap, sym, ◌∙◌, arith, length}
 use Rattle.std.proofs.lemmas.List.{length_push}
-use Rattle.rt_formats.proofs.Turning.{each_turn}
+use Rattle.rt_words.proofs.Turning.{each_turn}
 use Rattle.rt_image.specs.Reading as reads
 use Rattle.rt_image.proofs.tasks.read_each.Goals as goal
 

@@ -1,5 +1,5 @@
 use Rattle.std.proofs.Common.{◌≡◌, ◌-◌, [], length}
-use Rattle.rt_formats.specs.Reading as formats
+use Rattle.rt_words.specs.Reading as formats
 use Rattle.rt_image.specs.Reading as reads
 use Rattle.rt_image.proofs.tasks.read_each.Given as goal
 

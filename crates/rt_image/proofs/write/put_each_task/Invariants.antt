@@ -1,5 +1,5 @@
 use Rattle.std.proofs.Common.{◌≡◌, ◌++◌, drop}
-use Rattle.rt_formats.specs.Spelling.{spell_all}
+use Rattle.rt_words.specs.Spelling.{spell_all}
 use Rattle.rt_image.specs.Spelling.{task_spelling}
 use Rattle.rt_image.proofs.write.put_each_task.Given as goal
 

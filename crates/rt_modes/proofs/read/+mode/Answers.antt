@@ -1,5 +1,5 @@
 use Rattle.std.proofs.Common.{arith}
-use Rattle.rt_formats.proofs.Turning.{each_turn}
+use Rattle.rt_words.proofs.Turning.{each_turn}
 use Rattle.rt_modes.specs.declared.code.Place.TheVariants.{Passed}
 use Rattle.rt_modes.specs.Reading as reads
 use Rattle.rt_modes.proofs.Levels.{inside_again}

@@ -1,6 +1,6 @@
 use Rattle.std.proofs.Common.{◌≡◌, ◌+◌, ◌-◌, ◌*◌, []}
 use Rattle.rt_modes.specs.declared.code.Place.TheVariants.{Passed}
-use Rattle.rt_formats.specs.Reading as formats
+use Rattle.rt_words.specs.Reading as formats
 use Rattle.rt_modes.specs.Reading as reads
 use Rattle.rt_modes.proofs.read.+mode.Given as goal
 

@@ -1,5 +1,5 @@
 use Rattle.std.proofs.Common.{inl, refl}
-use Rattle.rt_formats.proofs.Spelled.{fit_bytes}
+use Rattle.rt_words.proofs.Spelled.{fit_bytes}
 use Rattle.rt_modes.proofs.ReadAt.{rest_short, field_short, found, refused, same_mode, not_refused, same_field, not_stood}
 use Rattle.rt_modes.proofs.read.read_mode.Goals as goal
 

@@ -1,4 +1,4 @@
-use Rattle.rt_formats.proofs.Growing.{stands_still}
+use Rattle.rt_words.proofs.Growing.{stands_still}
 use Rattle.rt_modes.proofs.PartsLeft.{goes_on, goes_down}
 use Rattle.rt_modes.proofs.spell.spell_mode.Goals as goal
 

@@ -1,4 +1,4 @@
-use Rattle.rt_formats.proofs.Growing.{stands_still}
+use Rattle.rt_words.proofs.Growing.{stands_still}
 use Rattle.rt_modes.proofs.write.write_mode.Goals as goal
 
 pub returns-in_err-pieces-clause-err : goal.returns-in_err-pieces-clause-err

@@ -1,5 +1,5 @@
 use Rattle.std.proofs.Common.{ap, sym, ◌∙◌, arith}
-use Rattle.rt_formats.proofs.Turning.{each_turn}
+use Rattle.rt_words.proofs.Turning.{each_turn}
 use Rattle.rt_object.specs.Reading as reads
 use Rattle.rt_object.proofs.Turns.{names_more}
 use Rattle.rt_object.proofs.fields.read_each_field.Goals as goal

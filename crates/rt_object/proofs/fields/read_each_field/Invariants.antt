@@ -1,5 +1,5 @@
 use Rattle.std.proofs.Common.{◌≡◌, ◌-◌, []}
-use Rattle.rt_formats.specs.Reading as formats
+use Rattle.rt_words.specs.Reading as formats
 use Rattle.rt_object.specs.Known.{Knows}
 use Rattle.rt_object.specs.Ranges.{field_names}
 use Rattle.rt_object.specs.Reading as reads

@@ -1,6 +1,6 @@
 use Rattle.std.proofs.Common.{◌≡◌, sym, subst, Ok}
 use Rattle.std.proofs.lemmas.Result.{err_from_is_err_and}
-use Rattle.rt_formats.specs.Reading.{Fails}
+use Rattle.rt_words.specs.Reading.{Fails}
 use Rattle.rt_object.specs.Grammar.{records_format, object_format}
 use Rattle.rt_object.specs.Reading as reads
 use Rattle.rt_object.proofs.RecordsRead.{fails_stops, stops_stops, records_refused, tail_refused, object_read}

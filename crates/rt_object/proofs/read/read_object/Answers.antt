@@ -1,5 +1,5 @@
 use Rattle.std.proofs.Common.{◌-◌, length, [], inl, refl, sym, subst, ◌∙◌}
-use Rattle.rt_formats.proofs.Spelled.{fit_bytes}
+use Rattle.rt_words.proofs.Spelled.{fit_bytes}
 use Rattle.rt_object.specs.Grammar.{IsObject, IsNoObject}
 use Rattle.rt_object.proofs.ObjectLaws.{never_both, one_place, refused_at}
 use Rattle.rt_object.proofs.ReadAll.{left_within, is_object, same_object}

@@ -1,7 +1,7 @@
 use Rattle.std.proofs.Common.{[], refl, subst}
 use Rattle.std.proofs.lemmas.Result.{err_from_is_err_and}
-use Rattle.rt_formats.specs.Format.{whole}
-use Rattle.rt_formats.specs.Reading as formats
+use Rattle.rt_words.specs.Format.{whole}
+use Rattle.rt_words.specs.Reading as formats
 use Rattle.rt_object.specs.Grammar.{object_format}
 use Rattle.rt_object.proofs.RecordsRead.{fails_stops, byte_behind, nothing_behind}
 use Rattle.rt_object.proofs.read.read_parts.Goals as goal

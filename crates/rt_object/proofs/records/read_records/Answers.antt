@@ -1,6 +1,6 @@
 use Rattle.std.proofs.Common.{[], None, Some, subst, length}
 use Rattle.std.proofs.lemmas.Result.{err_from_is_err_and}
-use Rattle.rt_formats.specs.Reading as formats
+use Rattle.rt_words.specs.Reading as formats
 use Rattle.rt_object.specs.Grammar.{records_format, IsFirstBad}
 use Rattle.rt_object.specs.Known.{IsFirst}
 use Rattle.rt_object.specs.Reading as reads

@@ -1,5 +1,5 @@
 use Rattle.std.proofs.Common.{◌+◌, ap, sym, subst, ◌∙◌, arith}
-use Rattle.rt_formats.proofs.Turning.{each_turn}
+use Rattle.rt_words.proofs.Turning.{each_turn}
 use Rattle.rt_object.specs.Known.{AreBehind}
 use Rattle.rt_object.specs.Reading as reads
 use Rattle.rt_object.proofs.Turns.{behind_more}

@@ -1,5 +1,5 @@
 use Rattle.std.proofs.Common.{◌≡◌, ◌-◌, []}
-use Rattle.rt_formats.specs.Reading as formats
+use Rattle.rt_words.specs.Reading as formats
 use Rattle.rt_object.specs.Known.{AreBehind}
 use Rattle.rt_object.specs.Reading as reads
 use Rattle.rt_object.proofs.relocations.read_each_relocation.Given as goal

@@ -1,6 +1,6 @@
 use Rattle.std.proofs.Common.{◌≡◌, ◌+◌, ap, ◌∙◌, arith, length}
 use Rattle.std.proofs.lemmas.List.{length_push}
-use Rattle.rt_formats.proofs.Turning.{each_turn}
+use Rattle.rt_words.proofs.Turning.{each_turn}
 use Rattle.rt_object.specs.Reading as reads
 use Rattle.rt_object.proofs.strings.read_each_string.Goals as goal
 

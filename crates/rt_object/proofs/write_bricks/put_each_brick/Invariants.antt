@@ -1,5 +1,5 @@
 use Rattle.std.proofs.Common.{◌≡◌, ◌++◌, drop}
-use Rattle.rt_formats.specs.Spelling.{spell_all}
+use Rattle.rt_words.specs.Spelling.{spell_all}
 use Rattle.rt_object.specs.Spelling.{brick_spelling}
 use Rattle.rt_object.proofs.write_bricks.put_each_brick.Given as goal
 

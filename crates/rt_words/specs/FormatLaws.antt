@@ -1,6 +1,6 @@
 -- What each format made of these has: `proofs/Determined.antt` and `proofs/Front.antt` have it of every combinator.
 use Rattle.std.specs.Prelude.{◌≡◌, ℕ, ◌≤◌, ◌⊎◌, List, [], ◌++◌, length}
-use Rattle.rt_formats.specs.Format.{Format, Spell}
+use Rattle.rt_words.specs.Format.{Format, Spell}
 
 -- At each place something fits or a field is refused, never both; what fits is one, and so is the field.
 pub record IsDetermined {A : Type 0} (format : Format A) : Type 0 where

@@ -1,7 +1,7 @@
 //! Why a format isn't read.
 
 ghost use Rattle.std.specs.Prelude.{◌≡◌};
-ghost use Rattle.rt_formats.specs.declared.stop.Stop.TheVariants as stop;
+ghost use Rattle.rt_words.specs.declared.stop.Stop.TheVariants as stop;
 
 /// Why a format isn't read.
 #[derive(Clone, Copy, Drop)]

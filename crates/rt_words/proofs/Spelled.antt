@@ -4,8 +4,8 @@ use Rattle.std.specs.List.{AllByRecursion}
 use Rattle.std.proofs.lemmas.List.{append-nil}
 use Rattle.rt_words.specs.Bytes.{word_bytes}
 use Rattle.rt_words.specs.Named.{IsNameLength}
-use Rattle.rt_formats.specs.Format.{Format, byte, word, block, name, where_true, any, each, times}
-use Rattle.rt_formats.specs.Spelling.{spell_all, name_bytes}
+use Rattle.rt_words.specs.Format.{Format, byte, word, block, name, where_true, any, each, times}
+use Rattle.rt_words.specs.Spelling.{spell_all, name_bytes}
 
 abbrev pub AreBytes : List ℕ → Type 0
 AreBytes = AllByRecursion (λ b. b < 256)

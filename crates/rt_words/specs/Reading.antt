@@ -2,8 +2,8 @@
 -- the first field on that is cut or out of range.
 use Rattle.std.specs.Prelude.{◌≡◌, ℕ, zero, suc, ◌+◌, ◌*◌, ◌==◌, nat_eq, nat_le, Bool, ◌&&◌, if◌then◌else◌, List, [], ◌∷◌, ◌++◌, length, take, drop, Option, Some, None, Result, Ok, Err}
 use Rattle.std.specs.List.{starts_with}
-use Rattle.rt_formats.specs.declared.stop.Stop.{Stop}
-use Rattle.rt_formats.specs.declared.stop.Stop.TheVariants as stop
+use Rattle.rt_words.specs.declared.stop.Stop.{Stop}
+use Rattle.rt_words.specs.declared.stop.Stop.TheVariants as stop
 
 abbrev pub Outcome : Type 0 → Type 0
 Outcome A = Result (A × List ℕ) ℕ

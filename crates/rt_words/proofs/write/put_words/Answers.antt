@@ -1,7 +1,7 @@
 use Rattle.std.proofs.Common.{◌++◌, drop, ap, ◌∙◌}
-use Rattle.rt_formats.specs.Spelling.{words_bytes}
-use Rattle.rt_formats.proofs.Growing.{grown}
-use Rattle.rt_formats.proofs.write.put_words.Goals as goal
+use Rattle.rt_words.specs.Spelling.{words_bytes}
+use Rattle.rt_words.proofs.Growing.{grown}
+use Rattle.rt_words.proofs.write.put_words.Goals as goal
 
 pub returns-in_err-put_word-clause-err : goal.returns-in_err-put_word-clause-err
 returns-in_err-put_word-clause-err c =

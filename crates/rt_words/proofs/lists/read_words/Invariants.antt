@@ -1,7 +1,7 @@
 use Rattle.std.proofs.Common.{◌≡◌, ◌-◌, []}
-use Rattle.rt_formats.specs.Format.{any}
-use Rattle.rt_formats.specs.Reading as reads
-use Rattle.rt_formats.proofs.lists.read_words.Given as goal
+use Rattle.rt_words.specs.Format.{any}
+use Rattle.rt_words.specs.Reading as reads
+use Rattle.rt_words.proofs.lists.read_words.Given as goal
 
 -- All are those found and as many more as there are turns left.
 abbrev pub invariant-loop-turn : goal.invariant-loop-turn

@@ -1,8 +1,8 @@
 use Rattle.std.proofs.Common.{arith}
-use Rattle.rt_formats.specs.Format.{within}
-use Rattle.rt_formats.specs.Reading as reads
-use Rattle.rt_formats.proofs.Turning.{each_turn}
-use Rattle.rt_formats.proofs.lists.read_bytes_within.Goals as goal
+use Rattle.rt_words.specs.Format.{within}
+use Rattle.rt_words.specs.Reading as reads
+use Rattle.rt_words.proofs.Turning.{each_turn}
+use Rattle.rt_words.proofs.lists.read_bytes_within.Goals as goal
 
 pub loop-turn-preserved : goal.loop-turn-preserved
 loop-turn-preserved c =

@@ -1,6 +1,6 @@
 -- A text that has grown by the beginning of another.
 use Rattle.std.proofs.Common.{◌≡◌, ℕ, List, ◌++◌, Result, Ok, Err, OnErr, refl}
-use Rattle.rt_formats.specs.Spelling.{Grew}
+use Rattle.rt_words.specs.Spelling.{Grew}
 
 -- what is left of the other is known
 pub grown : {T E : Type 0} (r : Result T E) (text rest old new : List ℕ) → new ++ rest ≡ old ++ text → OnErr r (Grew text old new)

@@ -2,7 +2,7 @@
 
 ghost use Rattle.std.specs.Prelude.{◌≡◌, ◌++◌, OnOk, OnErr};
 ghost use Rattle.rt_words.specs.Bytes.{word_bytes};
-ghost use Rattle.rt_formats.specs.Spelling.{words_bytes, name_bytes, Grew};
+ghost use Rattle.rt_words.specs.Spelling.{words_bytes, name_bytes, Grew};
 
 use byteorder::{ByteOrder, LittleEndian};
 use rt_words::{Memory, Name, Text};

@@ -1,11 +1,11 @@
 -- What fits a format is bytes in front, which fit whatever follows them.
 use Rattle.std.proofs.Common.{ℕ, zero, suc, Bool, List, [], ◌∷◌, ◌++◌, length, Option, refl, sym, ap, subst, ◌∙◌, append_assoc}
 use Rattle.std.proofs.lemmas.List.{append-nil}
-use Rattle.rt_formats.specs.Format.{Format, nothing, never, byte, word, block, tag, name, ◌>>=◌, each, times, passing}
-use Rattle.rt_formats.specs.Laws.{IsReadBack, NoneBegins}
-use Rattle.rt_formats.specs.Reading.{Reader}
-use Rattle.rt_formats.proofs.Right.{Right}
-use Rattle.rt_formats.proofs.Determined.{one_meaning}
+use Rattle.rt_words.specs.Format.{Format, nothing, never, byte, word, block, tag, name, ◌>>=◌, each, times, passing}
+use Rattle.rt_words.specs.FormatLaws.{IsReadBack, NoneBegins}
+use Rattle.rt_words.specs.Reading.{Reader}
+use Rattle.rt_words.proofs.Right.{Right}
+use Rattle.rt_words.proofs.Determined.{one_meaning}
 
 pub front_nothing : {A : Type 0} (a : A) → IsReadBack (nothing a)
 front_nothing a = record { back = λ l r x h. ([], h.0, λ s. (refl, h.1)) }

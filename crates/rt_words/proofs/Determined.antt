@@ -1,9 +1,9 @@
 -- A format that has a right function is determined.
 use Rattle.std.proofs.Common.{◌≡◌, ℕ, List, Ok, Err, ◌⊎◌, inl, inr, refl, sym, ◌∙◌}
-use Rattle.rt_formats.specs.Format.{Format}
-use Rattle.rt_formats.specs.Laws.{IsDetermined}
-use Rattle.rt_formats.specs.Reading.{Outcome, Reader}
-use Rattle.rt_formats.proofs.Right.{Right, ok, err, read_same, same_err}
+use Rattle.rt_words.specs.Format.{Format}
+use Rattle.rt_words.specs.FormatLaws.{IsDetermined}
+use Rattle.rt_words.specs.Reading.{Outcome, Reader}
+use Rattle.rt_words.proofs.Right.{Right, ok, err, read_same, same_err}
 
 module _ {A : Type 0} (p : Reader A) (P : Format A) (g : Right p P) where
   either : (l : List ℕ) → ((r : List ℕ) × (a : A) × P.Fits l r a) ⊎ ((n : ℕ) × P.Refuses l n)

@@ -1,10 +1,10 @@
 -- What a right function answers of all bytes.
 use Rattle.std.proofs.Common.{◌≡◌, ℕ, ◌-◌, ◌≤◌, List, [], length, Ok, Err, ◌⊎◌, inl, inr, refl, sym, ◌∙◌, arith}
-use Rattle.rt_formats.specs.Format.{Format, Spell, AreRefusedAt}
-use Rattle.rt_formats.specs.Reading.{Outcome, Reader}
-use Rattle.rt_formats.specs.Reading as reads
-use Rattle.rt_formats.proofs.Right.{Right, ok, err, read_same, same_err, right_whole}
-use Rattle.rt_formats.proofs.Within.{Within, in_whole}
+use Rattle.rt_words.specs.Format.{Format, Spell, AreRefusedAt}
+use Rattle.rt_words.specs.Reading.{Outcome, Reader}
+use Rattle.rt_words.specs.Reading as reads
+use Rattle.rt_words.proofs.Right.{Right, ok, err, read_same, same_err, right_whole}
+use Rattle.rt_words.proofs.Within.{Within, in_whole}
 
 module _ {A : Type 0} (p : Reader A) (P : Format A) (g : Right p P) (w : Within P) (bytes : List ℕ) where
   pub spelled : (a : A) (r : List ℕ) → reads.whole p bytes ≡ Ok (a, r) → Spell P bytes a

@@ -1,9 +1,9 @@
 //! Many fields of one kind.
 
 ghost use Rattle.std.specs.Prelude.{[]};
-ghost use Rattle.rt_formats.specs.Format.{any, within};
-ghost use Rattle.rt_formats.specs.Reading as reads;
-ghost use Rattle.rt_formats.specs.Reading.{Gives};
+ghost use Rattle.rt_words.specs.Format.{any, within};
+ghost use Rattle.rt_words.specs.Reading as reads;
+ghost use Rattle.rt_words.specs.Reading.{Gives};
 
 use crate::read::{read_byte_within, read_word};
 use crate::stop::Stop;

@@ -1,7 +1,7 @@
 -- What a format leaves, and the field that it refuses, lie within the bytes that stand there.
 use Rattle.std.proofs.Common.{◌≡◌, ℕ, zero, suc, ◌+◌, ◌≤◌, Bool, List, [], ◌∷◌, ◌++◌, length, Option, inl, inr, ap, ◌∙◌, arith}
 use Rattle.std.proofs.lemmas.List.{length-append}
-use Rattle.rt_formats.specs.Format.{Format, nothing, never, byte, word, block, tag, name, ◌>>=◌, each, times, or_zero, passing, whole}
+use Rattle.rt_words.specs.Format.{Format, nothing, never, byte, word, block, tag, name, ◌>>=◌, each, times, or_zero, passing, whole}
 
 pub record Within {A : Type 0} (P : Format A) : Type 0 where
   pub left : (l r : List ℕ) (a : A) → P.Fits l r a → length r ≤ length l

@@ -2,9 +2,9 @@
 
 ghost use Rattle.std.specs.Prelude.{◌≡◌, ◌≤◌, [], length, option_map, IfOk};
 ghost use Rattle.rt_words.specs.Named.{IsNameLength};
-ghost use Rattle.rt_formats.specs.Format.{any, within};
-ghost use Rattle.rt_formats.specs.Reading as reads;
-ghost use Rattle.rt_formats.specs.Reading.{Gives, word_at};
+ghost use Rattle.rt_words.specs.Format.{any, within};
+ghost use Rattle.rt_words.specs.Reading as reads;
+ghost use Rattle.rt_words.specs.Reading.{Gives, word_at};
 
 use crate::stop::Stop;
 use byteorder::{ByteOrder, LittleEndian};

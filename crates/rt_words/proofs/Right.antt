@@ -6,10 +6,10 @@ use Rattle.std.proofs.lemmas.Bool.Decides.{eqb_tells, leb_tells, Decides-eqb}
 use Rattle.std.proofs.lemmas.List.{length-append, length-take-le, take_at, drop_at, take-append-drop}
 use Rattle.std.proofs.lemmas.Slice.Eq.{starts_is}
 use Rattle.rt_words.specs.Named.{IsNameLength}
-use Rattle.rt_formats.specs.Format.{Format}
-use Rattle.rt_formats.specs.Format as format
-use Rattle.rt_formats.specs.Reading.{Outcome, Reader, and_then, taken, taken_if, is_name, passed, ended}
-use Rattle.rt_formats.specs.Reading as reads
+use Rattle.rt_words.specs.Format.{Format}
+use Rattle.rt_words.specs.Format as format
+use Rattle.rt_words.specs.Reading.{Outcome, Reader, and_then, taken, taken_if, is_name, passed, ended}
+use Rattle.rt_words.specs.Reading as reads
 
 pub record Right {A : Type 0} (p : Reader A) (P : Format A) : Type 0 where
   pub sound : (l r : List ℕ) (a : A) → p l ≡ Ok (a, r) → P.Fits l r a

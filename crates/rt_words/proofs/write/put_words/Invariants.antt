@@ -1,6 +1,6 @@
 use Rattle.std.proofs.Common.{◌≡◌, ◌++◌, drop}
-use Rattle.rt_formats.specs.Spelling.{words_bytes}
-use Rattle.rt_formats.proofs.write.put_words.Given as goal
+use Rattle.rt_words.specs.Spelling.{words_bytes}
+use Rattle.rt_words.proofs.write.put_words.Given as goal
 
 -- What is written and what is left are all of it.
 abbrev pub invariant-loop-word : goal.invariant-loop-word
