@@ -6,7 +6,7 @@ use Rattle.std.proofs.lemmas.Bool.Decides.{eqb_tells}
 use Rattle.std.proofs.Math.Path.{fun_ext}
 use Rattle.pdp_core.specs.Execute.{Outcome, execute}
 use Rattle.pdp_core.specs.declared.cpu.Stop.TheVariants.{Trap}
-use Rattle.pdp_plain.specs.declared.FlatBus.{FlatBus}
+use Rattle.pdp_core.specs.declared.flat.FlatBus.{FlatBus}
 use Rattle.rt_first.specs.declared.condition.Condition.TheVariants.{Ready, Ended}
 use Rattle.rt_first.specs.declared.image.Image.{Image}
 use Rattle.rt_first.specs.declared.machine.Machine.{Machine}

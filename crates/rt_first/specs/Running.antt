@@ -3,7 +3,7 @@ use Rattle.std.specs.Prelude.{ℕ, ◌%◌, ◌==◌, if◌then◌else◌, ◌�
 use Rattle.std.specs.Io.KnownBytes.{Appends}
 use Rattle.pdp_core.specs.World.{World}
 use Rattle.pdp_core.specs.Protection.{protected}
-use Rattle.pdp_plain.specs.declared.FlatBus.{FlatBus}
+use Rattle.pdp_core.specs.declared.flat.FlatBus.{FlatBus}
 use Rattle.rt_first.specs.declared.image.Image.{Image}
 use Rattle.rt_first.specs.declared.machine.Machine.{Machine}
 use Rattle.rt_first.specs.declared.machine.Asked.{Asked}

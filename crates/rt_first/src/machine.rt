@@ -1,6 +1,5 @@
 use crate::condition::Condition;
-use pdp_core::Regs;
-use pdp_plain::FlatBus;
+use pdp_core::{FlatBus, Regs};
 
 /// The machine at a boundary between two instructions.
 #[derive(Drop)]

@@ -1,7 +1,6 @@
 //! A flat memory and registers, as cases begin with them, and the names of faults.
 
-use pdp_core::{Bus, Kind, MEMORY_END, Protection, Regs};
-use pdp_plain::FlatBus;
+use pdp_core::{Bus, FlatBus, Kind, MEMORY_END, Protection, Regs};
 
 /// The whole memory as data, while words are laid down.
 pub const ALL: Protection = Protection {

@@ -2,8 +2,7 @@
 
 use crate::flat::CLEAR;
 use crate::instructions::setting::{memory_of, set_flags};
-use pdp_core::{Regs, Stop, step};
-use pdp_plain::FlatBus;
+use pdp_core::{FlatBus, Regs, Stop, step};
 use rt_words::{Memory, Text};
 use std::alloc::Global;
 

@@ -2,8 +2,7 @@
 
 use crate::flat::{ALL, CLEAR};
 use crate::numbers::octal;
-use pdp_core::{Bus, Protection, Regs};
-use pdp_plain::FlatBus;
+use pdp_core::{Bus, FlatBus, Protection, Regs};
 use rt_words::Memory;
 use std::alloc::Global;
 

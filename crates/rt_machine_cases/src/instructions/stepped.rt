@@ -3,8 +3,7 @@
 use crate::flat::fault_name;
 use crate::instructions::setting::{REGISTERS, memory_of, read_setting};
 use crate::numbers::{tell_number, tell_octal};
-use pdp_core::{Bus, Regs, Stop, step};
-use pdp_plain::FlatBus;
+use pdp_core::{Bus, FlatBus, Regs, Stop, step};
 use rt_words::{Memory, Text};
 use std::alloc::Global;
 

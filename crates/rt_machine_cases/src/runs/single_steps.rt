@@ -3,8 +3,7 @@
 use crate::flat::{ALL, CLEAR, put_words};
 use crate::numbers::{first, tell_number, tell_octal};
 use crate::runs::images::image_of;
-use pdp_core::{Bus, Protection, Regs, Stop, step};
-use pdp_plain::FlatBus;
+use pdp_core::{Bus, FlatBus, Protection, Regs, Stop, step};
 use rt_image::{ImageParts, ImageTask};
 use rt_words::{Memory, Text};
 use std::alloc::Global;

@@ -1,7 +1,6 @@
 //! Where things stand in the memory of the cases, and the addresses that words of code wait for.
 
-use pdp_core::Bus;
-use pdp_plain::FlatBus;
+use pdp_core::{Bus, FlatBus};
 use rt_object::{Relocated, Relocation};
 use rt_templates::ProcCode;
 

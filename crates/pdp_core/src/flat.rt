@@ -1,11 +1,11 @@
 //! A flat memory for one task: all its bytes in one vector, with the parts of it that the task may use.
-#![tactic(auto)]
 
 ghost use Rattle.std.specs.Prelude.{◌≡◌, ℕ, ◌+◌, ◌*◌, ◌%◌, ◌/◌, ◌<◌, ◌^◌, length, slice_index, None, IfOk};
 ghost use Rattle.pdp_core.specs.World.{word_at};
 ghost use Rattle.pdp_core.specs.Protection.{protected};
 
-use pdp_core::{Bus, MEMORY_END, Protection, Refused};
+use crate::cpu::Refused;
+use crate::memory::{Bus, MEMORY_END, Protection};
 use rt_words::Memory;
 use std::alloc::Global;
 
