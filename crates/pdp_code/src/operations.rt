@@ -5,7 +5,7 @@ ghost use Rattle.pdp_code.specs.declared.instruction.SingleOp.{SingleOp};
 ghost use Rattle.pdp_code.specs.declared.instruction.Size.{Size};
 ghost use Rattle.pdp_code.specs.declared.instruction.SumOp.{SumOp};
 
-use pdp_code::{DoubleOp, SingleOp, Size, SumOp};
+use crate::{DoubleOp, SingleOp, Size, SumOp};
 
 /// What is done with a source and a destination, of words or bytes.
 pub trait OnTwo {

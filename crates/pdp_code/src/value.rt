@@ -4,7 +4,7 @@ ghost use Rattle.std.specs.Prelude.{◌≡◌, ◌+◌, ◌-◌, ◌*◌, ◌/�
 ghost use Rattle.rt_words.specs.Word.{differ, extend_sign, with_low_byte};
 ghost use Rattle.pdp_code.specs.Values.{limit, half, negative, plus, minus, one_if, half_if, single_value, single_carry, single_overflow};
 
-use pdp_code::{SingleOp, Size};
+use crate::{SingleOp, Size};
 use rt_words::wrap_sub;
 
 /// A value that is shifted bit by bit, the last bit that went out, and whether its sign ever changed.

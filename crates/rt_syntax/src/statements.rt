@@ -256,8 +256,8 @@ fn switch(alloc: Global, context: Context, items: &[Item]) -> Result<(Simple, &[
     let at = at_of(context.total, items);
     let rest = after_word(Word::Switch, items)?;
     let (value, rest) = expression(alloc, context, rest)?;
-    let rest = after_word(Word::Of, rest)?;
-    let (labels, rest) = names(alloc, context, rest)?;
+    let (value, rest) = up_to(Word::Of, value, rest)?;
+    let ((value, labels), rest) = beside(value, names(alloc, context, rest))?;
     Ok((Simple::Switch(value, labels, at), rest))
 }
 
@@ -290,8 +290,8 @@ fn control(
     let at = at_of(context.total, items);
     let rest = open_word(levels, Word::For, items)?;
     let (name, rest) = ident(alloc, context.total, rest)?;
-    let (start, rest) = becomes(alloc, context, rest)?;
-    let (step, rest) = any_step(alloc, context, rest)?;
+    let (head, rest) = beside(name, becomes(alloc, context, rest))?;
+    let (((name, start), step), rest) = beside(head, any_step(alloc, context, rest))?;
     Ok((
         Control {
             name,
@@ -318,8 +318,7 @@ fn loop_head(
         return Ok((None, rest));
     }
     let (found, rest) = control(alloc, context, levels, items)?;
-    let rest = after_word(Word::To, rest)?;
-    Ok((Some(found), rest))
+    up_to(Word::To, Some(found), rest)
 }
 
 /// The labels of a statement.

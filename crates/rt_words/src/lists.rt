@@ -7,7 +7,7 @@ ghost use Rattle.rt_words.specs.Reading.{Gives};
 
 use crate::read::{read_byte_within, read_word};
 use crate::stop::Stop;
-use rt_words::{Bytes, List};
+use crate::{Bytes, List};
 use std::alloc::Global;
 
 /// So many words, each a field of its own.

@@ -6,9 +6,9 @@ ghost use Rattle.rt_words.specs.Format.{any, within};
 ghost use Rattle.rt_words.specs.Reading as reads;
 ghost use Rattle.rt_words.specs.Reading.{Gives, word_at};
 
+use crate::Name;
 use crate::stop::Stop;
 use byteorder::{ByteOrder, LittleEndian};
-use rt_words::Name;
 use std::alloc::Global;
 
 /// The word in front of the bytes, the low byte first, and the bytes behind it, where it isn't cut.

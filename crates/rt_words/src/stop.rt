@@ -11,10 +11,10 @@ pub enum Stop {
     Refused(usize),
 }
 
-impl From<rt_words::Memory> for Stop {
+impl From<crate::Memory> for Stop {
     ghost from_gives = { λ memory made. made ≡ stop.Memory };
 
-    fn from(_memory: rt_words::Memory) -> Stop {
+    fn from(_memory: crate::Memory) -> Stop {
         Stop::Memory
     }
 }

@@ -4,8 +4,8 @@ ghost use Rattle.std.specs.Prelude.{◌≡◌, ◌++◌, OnOk, OnErr};
 ghost use Rattle.rt_words.specs.Bytes.{word_bytes};
 ghost use Rattle.rt_words.specs.Spelling.{words_bytes, name_bytes, Grew};
 
+use crate::{Memory, Name, Text};
 use byteorder::{ByteOrder, LittleEndian};
-use rt_words::{Memory, Name, Text};
 
 /// Appends a word, the low byte first. Where there is no memory `out` stays as it was.
 pub fn put_word(word: u16, out: &mut Text) -> Result<(), Memory>
