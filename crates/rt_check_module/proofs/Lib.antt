@@ -1,7 +1,7 @@
 mod Walking
 mod Seeing
 pub mod Records
-pub mod Levels
+pub mod StartLevels
 pub mod Lists
 pub mod Steps
 pub mod Judged

@@ -3,7 +3,7 @@ use Rattle.std.specs.Prelude.{replicate}
 use Rattle.std.specs.Cmp.{booleans_Decides}
 use Rattle.std.proofs.lemmas.Slice.Eq.{slice_eq-Decides}
 use Rattle.rt_check_module.specs.Defaults.{all_have, listed, record_has}
-use Rattle.rt_check_module.proofs.Levels.{at_first, further_in, settled}
+use Rattle.rt_check_module.proofs.StartLevels.{at_first, further_in, settled}
 use Rattle.rt_check_module.proofs.defaults.records_with_default.Goals as goal
 
 pub loop-level-init : goal.loop-level-init
