@@ -7,7 +7,7 @@ use Rattle.rt_tree_nodes.specs.declared.store.Proc.{Proc}
 use Rattle.rt_object.specs.declared.object.Brick.{Brick}
 use Rattle.rt_object.specs.declared.object.ObjectParts.{ObjectParts}
 use Rattle.rt_object.specs.declared.object.ProcContent.{ProcContent}
-use Rattle.rt_supplied.specs.Bricks.{brick_numbered, text_in}
+use Rattle.rt_modes.specs.Bricks.{brick_numbered, text_in}
 use Rattle.rt_digraph.proofs.Lists.{some_is}
 use Rattle.rt_graph.specs.Calls.{brick, numbered, proc_at, body_in, content_at, HasFullMode, own, supplied, IsProcedure, IsSuppliedProc}
 use Rattle.rt_graph.specs.Numbers.{all_bricks, before, place, in_object, is_supplied, is_procedure_in, is_procedure, number_of, full_of, full_in, full_mode}

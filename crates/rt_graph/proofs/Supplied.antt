@@ -1,8 +1,8 @@
 -- The texts of supplied procedures.
 use Rattle.std.proofs.Common.{◌≡◌, ℕ, zero, suc, ◌-◌, ◌≤◌, arith, true, false, Some, slice_get, sym, ap}
-use Rattle.rt_supplied.specs.Bricks.{brick_numbered, text_in, text_of}
-use Rattle.rt_supplied.specs.declared.supplied.Supplied.{Supplied}
-use Rattle.rt_supplied.specs.declared.supplied.TheConstants.{SUPPLIED}
+use Rattle.rt_modes.specs.Bricks.{brick_numbered, text_in, text_of}
+use Rattle.rt_modes.specs.declared.supplied.Supplied.{Supplied}
+use Rattle.rt_modes.specs.declared.supplied.TheConstants.{SUPPLIED}
 use Rattle.rt_graph.specs.Numbers.{is_supplied}
 
 some_text : (s t : Supplied) → Some s ≡ Some t → text_of s ≡ text_of t

@@ -16,7 +16,7 @@ use Rattle.rt_object.specs.declared.object.ObjectParts.{ObjectParts}
 use Rattle.rt_object.specs.declared.object.ProcContent.{ProcContent}
 use Rattle.rt_object.specs.declared.object.Target.{Target}
 use Rattle.rt_object.specs.declared.object.Target.TheVariants as target
-use Rattle.rt_supplied.specs.Bricks.{brick_numbered, text_in}
+use Rattle.rt_modes.specs.Bricks.{brick_numbered, text_in}
 use Rattle.rt_match.specs.declared.bindings.Bound.{Bound}
 use Rattle.rt_match.specs.declared.bindings.Bound.TheVariants as bound
 use Rattle.rt_digraph.specs.Walks.{Has}

@@ -5,7 +5,7 @@ use Rattle.rt_modes.specs.FullMode.{FullMode}
 use Rattle.rt_tree_nodes.specs.declared.store.Proc.{Proc}
 use Rattle.rt_object.specs.declared.object.ObjectParts.{ObjectParts}
 use Rattle.rt_object.specs.declared.object.ProcContent.{ProcContent}
-use Rattle.rt_supplied.specs.Bricks.{brick_numbered, text_in}
+use Rattle.rt_modes.specs.Bricks.{brick_numbered, text_in}
 use Rattle.rt_graph.specs.Calls.{brick, numbered, proc_at}
 
 -- so many bricks of module m, from brick b on

@@ -1,16 +1,15 @@
 //! What a system has at the places that its procedures name.
 
 ghost use Rattle.std.specs.Prelude.{◌≡◌, ◌≤◌, ◌-◌, [], Some, slice_get, IfOk};
-ghost use Rattle.rt_supplied.specs.declared.supplied.TheConstants.{SUPPLIED};
+ghost use Rattle.rt_modes.specs.declared.supplied.TheConstants.{SUPPLIED};
 ghost use Rattle.std.specs.Option.{option_copied};
 ghost use Rattle.rt_modes.specs.FullMode.{FullMode};
 ghost use Rattle.rt_graph.specs.Calls as calls;
 ghost use Rattle.rt_graph.specs.Numbers as numbers;
 
 use rt_match::{Bindings, Bound};
-use rt_modes::write_mode;
+use rt_modes::{SUPPLIED, Supplied, write_mode};
 use rt_object::{Brick, BrickKind, Content, Object, ObjectParts, ProcContent};
-use rt_supplied::{SUPPLIED, Supplied};
 use rt_tree_nodes::Proc;
 use rt_words::{Bytes, Memory, Text};
 use std::alloc::Global;

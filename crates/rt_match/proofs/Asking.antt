@@ -7,9 +7,9 @@ use Rattle.rt_modes.specs.declared.mode.ModeTable.{ModeTable}
 use Rattle.rt_object.specs.declared.object.Brick.{Brick}
 use Rattle.rt_object.specs.declared.object.BrickKind.{BrickKind}
 use Rattle.rt_object.specs.declared.object.BrickKind.TheVariants as kind
-use Rattle.rt_supplied.specs.Bricks.{SuppliedBrick, brick_numbered, is_of, number_of, name_of, text_of, supplied_by}
-use Rattle.rt_supplied.specs.declared.supplied.Supplied.{Supplied}
-use Rattle.rt_supplied.proofs.Named.{of_their_names, are_numbered, numbers_agree}
+use Rattle.rt_modes.specs.Bricks.{SuppliedBrick, brick_numbered, is_of, number_of, name_of, text_of, supplied_by}
+use Rattle.rt_modes.specs.declared.supplied.Supplied.{Supplied}
+use Rattle.rt_modes.proofs.Named.{of_their_names, are_numbered, numbers_agree}
 use Rattle.rt_match.specs.declared.bindings.Bound.{Bound}
 use Rattle.rt_match.specs.declared.bindings.Bound.TheVariants as bound
 use Rattle.rt_match.specs.declared.entries.Entry.{Entry}

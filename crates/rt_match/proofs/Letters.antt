@@ -14,8 +14,8 @@ use Rattle.rt_object.specs.declared.object.Content.TheVariants as content
 use Rattle.rt_object.specs.declared.object.External.TheVariants as external
 use Rattle.rt_object.specs.declared.object.ObjectParts.{ObjectParts}
 use Rattle.rt_object.specs.declared.object.Supplied.TheVariants as supplied
-use Rattle.rt_supplied.specs.declared.supplied.Supplied.{Supplied}
-use Rattle.rt_supplied.specs.declared.supplied.Supplied.TheVariants as brick
+use Rattle.rt_modes.specs.declared.supplied.Supplied.{Supplied}
+use Rattle.rt_modes.specs.declared.supplied.Supplied.TheVariants as brick
 use Rattle.rt_match.specs.Matching as matching
 use Rattle.rt_match.specs.Matching.{Sort, Signature, System, module_of, HasBrick, IsSupplied, AsksFor}
 use Rattle.rt_match.specs.Laws.{DifferencesShow}

@@ -2,8 +2,8 @@
 use Rattle.std.proofs.Common.{◌≡◌, ◌⊎◌, ℕ, zero, suc, Bool, true, false, List, Option, Some, None, slice_get, refl, sym, ap, ◌∙◌, subst, inl, inr}
 use Rattle.std.specs.Str.{bytes_eq}
 use Rattle.std.proofs.lemmas.Slice.Eq.{bytes_eq-Decides}
-use Rattle.rt_supplied.specs.Bricks.{number_of, supplied_by}
-use Rattle.rt_supplied.specs.declared.supplied.Supplied.{Supplied}
+use Rattle.rt_modes.specs.Bricks.{number_of, supplied_by}
+use Rattle.rt_modes.specs.declared.supplied.Supplied.{Supplied}
 use Rattle.rt_match.specs.declared.bindings.Bound.{Bound}
 use Rattle.rt_match.specs.declared.bindings.Bound.TheVariants as bound
 use Rattle.rt_match.specs.declared.fault.MatchFault.TheVariants as fault

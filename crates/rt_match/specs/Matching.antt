@@ -1,7 +1,7 @@
 -- Which modules match, and to what their bricks are bound. A system is the list of its modules, each of which is here what its
 -- bricks say of themselves to others.
 use Rattle.std.specs.Prelude.{◌≡◌, ◌⊎◌, ◌<◌, ℕ, zero, suc, nat_le, if◌then◌else◌, List, [], ◌∷◌, Option, Some, None, option_map, slice_get}
-use Rattle.rt_supplied.specs.Bricks.{SuppliedBrick, brick_numbered}
+use Rattle.rt_modes.specs.Bricks.{SuppliedBrick, brick_numbered}
 use Rattle.rt_match.specs.declared.bindings.Bound.{Bound}
 use Rattle.rt_match.specs.declared.bindings.Bound.TheVariants as bound
 use Rattle.rt_match.specs.declared.fault.MatchFault.{MatchFault}

@@ -7,8 +7,8 @@ use denote.Ref.{Bor}
 use Rattle.rt_object.specs.declared.object.Brick.{Brick}
 use Rattle.rt_object.specs.declared.object.BrickKind.{BrickKind}
 use Rattle.rt_object.specs.declared.object.BrickKind.TheVariants as kind
-use Rattle.rt_supplied.specs.Bricks.{number_of, name_of, text_of, is_of, supplied_by}
-use Rattle.rt_supplied.specs.declared.supplied.Supplied.{Supplied}
+use Rattle.rt_modes.specs.Bricks.{number_of, name_of, text_of, is_of, supplied_by}
+use Rattle.rt_modes.specs.declared.supplied.Supplied.{Supplied}
 use Rattle.rt_match.specs.declared.bindings.Bound.{Bound}
 use Rattle.rt_match.specs.declared.bindings.Bound.TheVariants as bound
 use Rattle.rt_match.specs.declared.entries.Entry.{Entry}

@@ -1,7 +1,7 @@
 //! Bricks that differ from that for which they ask.
 
 ghost use Rattle.std.specs.Prelude.{◌≡◌, suc, ◌<◌, ◌≤◌, ◌↔◌, ℕ, nat_le, length, MatchOption, IfOk, OnOk, IfErr, IsTrue};
-ghost use Rattle.rt_supplied.specs.Bricks.{number_of};
+ghost use Rattle.rt_modes.specs.Bricks.{number_of};
 ghost use Rattle.rt_match.specs.Matching.{Signature, supplied_sort, HasBrick, IsEntry, Lacks, Differs, Never, Fails};
 ghost use Rattle.rt_match.specs.Signatures.{signature, sort_of, system_of};
 ghost use Rattle.rt_match.specs.Shapes.{form};
@@ -11,9 +11,8 @@ ghost use Rattle.rt_match.specs.declared.fault.MatchFault.TheVariants as fault;
 use crate::entries::{Entries, Entry, find};
 use crate::fault::MatchFault;
 use crate::shape::{Shape, full_text, same_shape, shape_of};
-use rt_modes::ModeTable;
+use rt_modes::{ModeTable, Supplied};
 use rt_object::{Brick, BrickKind, Object};
-use rt_supplied::Supplied;
 use rt_words::{Bytes, List, Memory};
 use std::alloc::Global;
 

@@ -9,8 +9,8 @@ ghost use Rattle.rt_match.specs.Walking.{Clear, Known, Bindable, Binds};
 use crate::bindings::{Bindings, Bound};
 use crate::entries::{Entries, find};
 use crate::fault::MatchFault;
+use rt_modes::Supplied;
 use rt_object::{Brick, BrickKind, Object};
-use rt_supplied::Supplied;
 use rt_words::List;
 use std::alloc::Global;
 

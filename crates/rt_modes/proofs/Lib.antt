@@ -10,3 +10,4 @@ pub mod Records
 pub mod Spelled
 pub mod Stack
 pub mod Within
+pub mod Named

@@ -5,3 +5,5 @@ pub mod Parts
 pub mod Reading
 pub mod Spelling
 pub mod ModeWords
+pub mod Bricks
+pub mod SuppliedLaws

@@ -7,8 +7,8 @@ use Rattle.rt_tree_nodes.specs.declared.brick.Kind.{Kind}
 use Rattle.rt_tree_nodes.specs.declared.brick.Kind.TheVariants as kind
 use Rattle.rt_tree_nodes.specs.declared.brick.ModuleParts.{ModuleParts}
 use Rattle.rt_tree_nodes.specs.declared.store.Proc.{Proc}
-use Rattle.rt_supplied.specs.Bricks.{number_of, supplied_by}
-use Rattle.rt_supplied.specs.declared.supplied.Supplied.{Supplied}
+use Rattle.rt_modes.specs.Bricks.{number_of, supplied_by}
+use Rattle.rt_modes.specs.declared.supplied.Supplied.{Supplied}
 use Rattle.rt_work_state.specs.Stores.{supplied}
 
 -- the number of a supplied procedure; 0 of what isn't one

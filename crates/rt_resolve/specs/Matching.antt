@@ -9,7 +9,7 @@ use Rattle.rt_tree_nodes.specs.declared.brick.BrickSort.TheVariants as sort
 use Rattle.rt_tree_nodes.specs.declared.brick.Kind.TheVariants as kind
 use Rattle.rt_tree_nodes.specs.declared.brick.ModuleParts.{ModuleParts}
 use Rattle.rt_tree_nodes.specs.Scopes.{face, is_errors, is_streams}
-use Rattle.rt_supplied.specs.Bricks.{supplied_names}
+use Rattle.rt_modes.specs.Bricks.{supplied_names}
 use Rattle.rt_tree.specs.Stored.{System, HasBrick}
 use Rattle.rt_modes.specs.declared.mode.Mode.TheVariants as mode
 

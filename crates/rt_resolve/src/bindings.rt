@@ -5,7 +5,7 @@ ghost use Rattle.rt_work_state.specs.Stores as stores;
 ghost use Rattle.rt_resolve.specs.Bindings as bindings;
 ghost use Rattle.rt_resolve.specs.Systems.{IsNumbered};
 
-use rt_supplied::Supplied;
+use rt_modes::Supplied;
 use rt_tree::{Brick, Kind, Proc, TypedModule};
 use rt_words::{List, Memory};
 use std::alloc::Global;

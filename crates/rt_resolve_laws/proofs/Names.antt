@@ -1,6 +1,6 @@
 -- The numbers of the supplied procedures.
 use Rattle.std.proofs.Common.{◌≡◌, ℕ, zero, suc, List, Some, codes, slice_get, refl, sym, ap, ◌∙◌}
-use Rattle.rt_supplied.specs.Bricks.{supplied_names}
+use Rattle.rt_modes.specs.Bricks.{supplied_names}
 use Rattle.rt_resolve.specs.Bindings.{supplied_number}
 
 named : {x : List ℕ} (y : List ℕ) (k : ℕ) → Some y ≡ Some x → supplied_number y ≡ suc k → supplied_number x ≡ suc k

@@ -4,7 +4,7 @@ use Rattle.std.proofs.lemmas.Option.{slice_get_within}
 use Rattle.rt_digraph.proofs.Lists.{get_there, get_left, get_cases, long_one}
 use Rattle.rt_digraph.specs.Walks.{Has, IsCycleOf}
 use Rattle.rt_tree_nodes.specs.declared.store.Proc.{Proc}
-use Rattle.rt_supplied.specs.Bricks.{SuppliedBrick, supplied_bricks, brick_numbered, name_in}
+use Rattle.rt_modes.specs.Bricks.{SuppliedBrick, supplied_bricks, brick_numbered, name_in}
 use Rattle.rt_object.specs.declared.object.Brick.{Brick}
 use Rattle.rt_object.specs.declared.object.ObjectParts.{ObjectParts}
 use Rattle.rt_object.specs.declared.object.ProcContent.{ProcContent}

@@ -2,7 +2,7 @@
 use Rattle.std.specs.Prelude.{◌≡◌, ℕ, List, length, Option, Some, slice_get}
 use Rattle.rt_digraph.specs.Walks.{Has}
 use Rattle.rt_tree_nodes.specs.declared.store.Proc.{Proc}
-use Rattle.rt_supplied.specs.Bricks.{SuppliedBrick, brick_numbered}
+use Rattle.rt_modes.specs.Bricks.{SuppliedBrick, brick_numbered}
 use Rattle.rt_object.specs.declared.object.Brick.{Brick}
 use Rattle.rt_object.specs.declared.object.ObjectParts.{ObjectParts}
 use Rattle.rt_outside.specs.Files.{Files}

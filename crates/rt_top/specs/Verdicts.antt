@@ -1,7 +1,7 @@
 -- The fault lines of systems that aren't linked.
 use Rattle.std.specs.Prelude.{◌≡◌, ℕ, zero, suc, List, [], map, Option, Some, None, slice_get}
 use Rattle.rt_tree_nodes.specs.declared.store.Proc.{Proc}
-use Rattle.rt_supplied.specs.Bricks.{brick_numbered, name_in}
+use Rattle.rt_modes.specs.Bricks.{brick_numbered, name_in}
 use Rattle.rt_object.specs.declared.object.Brick.{Brick}
 use Rattle.rt_object.specs.declared.object.ObjectParts.{ObjectParts}
 use Rattle.rt_outside.specs.Files.{Files}

@@ -27,7 +27,7 @@ use Rattle.rt_tree_nodes.specs.declared.store.Proc.{Proc}
 use Rattle.rt_tree.specs.Modules.{is_here, mode_along}
 use Rattle.rt_tree_nodes.specs.Scopes.{faces, field_at, proc_mode}
 use Rattle.rt_tree.specs.Taken.{taken}
-use Rattle.rt_supplied.specs.Bricks.{supplied_names}
+use Rattle.rt_modes.specs.Bricks.{supplied_names}
 
 abbrev pub System : Type 0
 System = List ModuleParts

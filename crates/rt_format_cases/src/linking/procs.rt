@@ -1,8 +1,8 @@
 //! Procedures, as they are told.
 
 use rt_graph::Proc;
+use rt_modes::SUPPLIED;
 use rt_object::Object;
-use rt_supplied::SUPPLIED;
 use rt_words::{Memory, Text};
 
 /// Appends procedures, with a space between.

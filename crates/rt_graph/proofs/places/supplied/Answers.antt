@@ -1,7 +1,7 @@
 use Rattle.std.proofs.Common.{◌<◌, ◌-◌, arith}
 use Rattle.std.proofs.lemmas.Option.{slice_get-get_or}
-use Rattle.rt_supplied.specs.declared.supplied.Supplied.TheVariants as brick
-use Rattle.rt_supplied.specs.declared.supplied.TheConstants.{SUPPLIED}
+use Rattle.rt_modes.specs.declared.supplied.Supplied.TheVariants as brick
+use Rattle.rt_modes.specs.declared.supplied.TheConstants.{SUPPLIED}
 use Rattle.rt_graph.proofs.places.supplied.Goals as goal
 
 pub returns : goal.returns

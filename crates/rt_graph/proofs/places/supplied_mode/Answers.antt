@@ -1,6 +1,6 @@
 use Rattle.std.proofs.Common.{◌≡◌, ◌-◌, ℕ, slice_get, Bool, List, Some, None, if◌then◌else◌, sym, ap, ◌∙◌, subst}
-use Rattle.rt_supplied.specs.Bricks.{brick_numbered, text_in}
-use Rattle.rt_supplied.specs.declared.supplied.TheConstants.{SUPPLIED}
+use Rattle.rt_modes.specs.Bricks.{brick_numbered, text_in}
+use Rattle.rt_modes.specs.declared.supplied.TheConstants.{SUPPLIED}
 use Rattle.rt_graph.proofs.Supplied.{text_is}
 use Rattle.rt_graph.proofs.places.supplied_mode.Goals as goal
 

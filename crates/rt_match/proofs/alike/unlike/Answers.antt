@@ -1,5 +1,5 @@
 use Rattle.std.proofs.Common.{◌≡◌, Some, None, sym, ap, ◌∙◌, MatchOption}
-use Rattle.rt_supplied.specs.Bricks.{supplied_by}
+use Rattle.rt_modes.specs.Bricks.{supplied_by}
 use Rattle.rt_match.specs.Signatures.{signature, whose, system_of}
 use Rattle.rt_match.specs.Walking.{entry_in, Compared, IsAlike, IsUnlike, supplied_as}
 use Rattle.rt_match.proofs.Asking.{ok_map, alike_entry, alike_nowhere, alike_supplied, alike_unsupplied}

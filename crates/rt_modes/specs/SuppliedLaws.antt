@@ -1,8 +1,8 @@
 -- Laws of the supplied bricks.
 use Rattle.std.specs.Prelude.{◌≡◌, ℕ, suc, List, map, take, Some, slice_get}
-use Rattle.rt_supplied.specs.Bricks.{SuppliedBrick, supplied_names, supplied_bricks, brick_numbered, is_of, number_of, name_of, text_of, supplied_by}
-use Rattle.rt_supplied.specs.declared.supplied.Supplied.{Supplied}
-use Rattle.rt_supplied.specs.declared.supplied.TheConstants.{SUPPLIED}
+use Rattle.rt_modes.specs.Bricks.{SuppliedBrick, supplied_names, supplied_bricks, brick_numbered, is_of, number_of, name_of, text_of, supplied_by}
+use Rattle.rt_modes.specs.declared.supplied.Supplied.{Supplied}
+use Rattle.rt_modes.specs.declared.supplied.TheConstants.{SUPPLIED}
 
 -- the names of the procedures are those of the first ten bricks
 abbrev pub NamesAgree : Type 0

@@ -1,9 +1,9 @@
 -- The supplied bricks: ten procedures, which count from 1 by their traps, and behind them two data bricks.
 use Rattle.std.specs.Prelude.{ℕ, zero, suc, List, [], ◌∷◌, codes, find, Option, Some, None, slice_get}
 use Rattle.std.specs.Str.{bytes_eq}
-use Rattle.rt_supplied.specs.declared.supplied.Supplied.{Supplied}
-use Rattle.rt_supplied.specs.declared.supplied.Supplied.TheVariants as brick
-use Rattle.rt_supplied.specs.declared.supplied.TheConstants.{SUPPLIED}
+use Rattle.rt_modes.specs.declared.supplied.Supplied.{Supplied}
+use Rattle.rt_modes.specs.declared.supplied.Supplied.TheVariants as brick
+use Rattle.rt_modes.specs.declared.supplied.TheConstants.{SUPPLIED}
 
 -- a supplied brick: its name, and its full mode as a text
 pub record SuppliedBrick : Type 0 where

@@ -1,7 +1,7 @@
 //! One variant for each supplied brick.
 
 ghost use Rattle.std.specs.Prelude.{◌≡◌, ◌≤◌, ◌↔◌, IsTrue};
-ghost use Rattle.rt_supplied.specs.Bricks as bricks;
+ghost use Rattle.rt_modes.specs.Bricks as bricks;
 
 /// A supplied brick.
 #[derive(Clone, Copy, Debug)]

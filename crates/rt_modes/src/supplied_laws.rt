@@ -1,6 +1,6 @@
 //! Laws of the supplied bricks, as the contracts of functions that do nothing.
 
-ghost use Rattle.rt_supplied.specs.Laws.{NamesAgree, NumbersAgree, NamesTell, AreFound, AreOfTheirNames, AreNumbered};
+ghost use Rattle.rt_modes.specs.SuppliedLaws.{NamesAgree, NumbersAgree, NamesTell, AreFound, AreOfTheirNames, AreNumbered};
 
 /// The names of the procedures are those of the first ten bricks, and the number of each brick is its place in the list.
 pub fn supplied_bricks_agree()

@@ -4,11 +4,11 @@ use Rattle.std.specs.Prelude.{find}
 use Rattle.std.specs.Str.{bytes_eq}
 use Rattle.std.proofs.lemmas.Option.{slice_get_within}
 use Rattle.std.proofs.lemmas.Slice.Eq.{bytes_eq-Decides}
-use Rattle.rt_supplied.specs.Bricks.{SuppliedBrick, supplied_bricks, is_of, number_of, name_of, text_of, supplied_by}
-use Rattle.rt_supplied.specs.Laws.{NumbersAgree, AreFound, AreOfTheirNames, AreNumbered}
-use Rattle.rt_supplied.specs.declared.supplied.Supplied.{Supplied}
-use Rattle.rt_supplied.specs.declared.supplied.Supplied.TheVariants as brick
-use Rattle.rt_supplied.specs.declared.supplied.TheConstants.{SUPPLIED}
+use Rattle.rt_modes.specs.Bricks.{SuppliedBrick, supplied_bricks, is_of, number_of, name_of, text_of, supplied_by}
+use Rattle.rt_modes.specs.SuppliedLaws.{NumbersAgree, AreFound, AreOfTheirNames, AreNumbered}
+use Rattle.rt_modes.specs.declared.supplied.Supplied.{Supplied}
+use Rattle.rt_modes.specs.declared.supplied.Supplied.TheVariants as brick
+use Rattle.rt_modes.specs.declared.supplied.TheConstants.{SUPPLIED}
 
 -- what is found passes the test
 found_passes : {A : Type 0} (p : A → Bool) (xs : List A) (s : A) → find p xs ≡ Some s → p s ≡ true

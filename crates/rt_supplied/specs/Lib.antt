@@ -1,2 +1,0 @@
-pub mod Bricks
-pub mod Laws
