@@ -1,5 +1,6 @@
 -- Modes are the same exactly where they are equal.
 use Rattle.std.proofs.Common.{◌≡◌, ℕ, ◌==◌, ◌&&◌, Bool, true, false, List, [], ◌∷◌, Option, Some, None, map, option_map, arith, refl, sym, ap, ◌∙◌, subst}
+use Rattle.std.proofs.lemmas.Bool.{false≢true}
 use Rattle.std.proofs.lemmas.Bool.Decides.{nat_tests}
 use Rattle.rt_modes.specs.declared.mode.Mode.{Mode, out-Mode, roll-Mode, map-Mode, the_lemmas}
 use Rattle.rt_modes.specs.declared.mode.Mode.TheFolds.{ind-Mode, fold_out-Mode}
@@ -8,27 +9,12 @@ use Rattle.rt_tree_nodes.specs.Scopes.{Layer, same, layer_same, all_same, result
 
 -- one layer, with the tests of the modes inside it
 abbrev tests : Layer → Mode-F (Mode → Bool)
-tests Mode-F.Byte = Mode-F.Byte
-tests Mode-F.Int = Mode-F.Int
-tests Mode-F.Frac = Mode-F.Frac
-tests Mode-F.Label = Mode-F.Label
-tests (Mode-F.Ref m) = Mode-F.Ref (same m)
-tests (Mode-F.RefArray m) = Mode-F.RefArray (same m)
-tests (Mode-F.Array k m) = Mode-F.Array k (same m)
-tests (Mode-F.Record r) = Mode-F.Record r
-tests (Mode-F.Proc ps r) = Mode-F.Proc (map same ps) (option_map same r)
+tests = map-Mode Mode (Mode → Bool) same
 
 same_at : (m n : Mode) (l : Layer) → out-Mode m ≡ l → same m n ≡ layer_same (tests l) (out-Mode n)
-same_at m n (Mode-F.Ref k) e = rw (fold_out-Mode, e) refl
-same_at m n Mode-F.Byte e = rw (fold_out-Mode, e) refl
-same_at m n Mode-F.Int e = rw (fold_out-Mode, e) refl
-same_at m n Mode-F.Frac e = rw (fold_out-Mode, e) refl
-same_at m n Mode-F.Label e = rw (fold_out-Mode, e) refl
-same_at m n (Mode-F.RefArray k) e = rw (fold_out-Mode, e) refl
-same_at m n (Mode-F.Array j k) e = rw (fold_out-Mode, e) refl
-same_at m n (Mode-F.Record r) e = rw (fold_out-Mode, e) refl
-same_at m n (Mode-F.Proc ps None) e = rw (fold_out-Mode, e) refl
-same_at m n (Mode-F.Proc ps (Some r)) e = rw (fold_out-Mode, e) refl
+same_at m n l e =
+    ap (λ (f : Mode → Bool). f n) (fold_out-Mode (Mode → Bool) (λ f m. layer_same f (out-Mode m)) m)
+    ∙ ap (λ (k : Layer). layer_same (tests k) (out-Mode n)) e
 
 roll_out : (m : Mode) → roll-Mode (out-Mode m) ≡ m
 roll_out m = search the_lemmas
@@ -39,13 +25,16 @@ out_roll l = search the_lemmas
 pub out_same : (m n : Mode) → out-Mode m ≡ out-Mode n → m ≡ n
 out_same m n e = sym (roll_out m) ∙ ap roll-Mode e ∙ roll_out n
 
+never : {A : Type 0} → false ≡ true → A
+never e = absurd (false≢true e)
+
 left_of : (a b : Bool) → a && b ≡ true → a ≡ true
 left_of true b e = refl
 left_of false b e = e
 
 right_of : (a b : Bool) → a && b ≡ true → b ≡ true
 right_of true b e = e
-right_of false b e = absurd cc
+right_of false b e = never e
 
 equal_numbers : (k n : ℕ) → (k == n) ≡ true → k ≡ n
 equal_numbers k n e = grind (arith, nat_tests)
@@ -56,57 +45,63 @@ Known m = (n : Mode) → same m n ≡ true → m ≡ n
 abbrev Pair : Type 0
 Pair = (m : Mode) × Known m
 
+rows_equal : (m n : Mode) (ms ns : List Mode) → m ≡ n → ms ≡ ns → m ∷ ms ≡ n ∷ ns
+rows_equal m n ms ns e h = rw (e, h) refl
+
 all_equal : (ps : List Pair) (qs : List Mode) → all_same (map same (map (λ e. e.0) ps)) qs ≡ true → map (λ e. e.0) ps ≡ qs
 all_equal [] [] e = refl
-all_equal [] (q ∷ qs) e = absurd cc
-all_equal (p ∷ ps) [] e = absurd cc
+all_equal [] (q ∷ qs) e = never e
+all_equal (p ∷ ps) [] e = never e
 all_equal (p ∷ ps) (q ∷ qs) e =
     let first : p.0 ≡ q = p.1 q (left_of (same p.0 q) (all_same (map same (map (λ e. e.0) ps)) qs) e) in
     let rest : map (λ e. e.0) ps ≡ qs = all_equal ps qs (right_of (same p.0 q) (all_same (map same (map (λ e. e.0) ps)) qs) e) in
-    cc
+    rows_equal p.0 q (map (λ e. e.0) ps) qs first rest
 
 result_equal : (r : Option Pair) (q : Option Mode) → result_same (option_map same (option_map (λ e. e.0) r)) q ≡ true → option_map (λ e. e.0) r ≡ q
 result_equal None None e = refl
-result_equal None (Some q) e = absurd cc
-result_equal (Some p) None e = absurd cc
+result_equal None (Some q) e = never e
+result_equal (Some p) None e = never e
 result_equal (Some p) (Some q) e = ap (λ (m : Mode). Some m) (p.1 q e)
 
 abbrev plain : Mode-F Pair → Layer
 plain y = map-Mode Pair Mode (λ e. e.0) y
+
+array_equal : (k j : ℕ) (m n : Mode) → k ≡ j → m ≡ n → Mode-F.Array k m ≡ Mode-F.Array j n
+array_equal k j m n e h = rw (e, h) refl
 
 proc_equal : (ps qs : List Mode) (r q : Option Mode) → ps ≡ qs → r ≡ q → Mode-F.Proc ps r ≡ Mode-F.Proc qs q
 proc_equal ps qs r q e h = rw (e, h) refl
 
 level_equal : (y : Mode-F Pair) (l : Layer) → layer_same (tests (plain y)) l ≡ true → plain y ≡ l
 level_equal Mode-F.Byte Mode-F.Byte e = refl
-level_equal Mode-F.Byte _ e = absurd cc
+level_equal Mode-F.Byte _ e = never e
 level_equal Mode-F.Int Mode-F.Int e = refl
-level_equal Mode-F.Int _ e = absurd cc
+level_equal Mode-F.Int _ e = never e
 level_equal Mode-F.Frac Mode-F.Frac e = refl
-level_equal Mode-F.Frac _ e = absurd cc
+level_equal Mode-F.Frac _ e = never e
 level_equal Mode-F.Label Mode-F.Label e = refl
-level_equal Mode-F.Label _ e = absurd cc
+level_equal Mode-F.Label _ e = never e
 level_equal (Mode-F.Ref p) (Mode-F.Ref n) e = ap (λ (m : Mode). Mode-F.Ref m) (p.1 n e)
-level_equal (Mode-F.Ref p) _ e = absurd cc
+level_equal (Mode-F.Ref p) _ e = never e
 level_equal (Mode-F.RefArray p) (Mode-F.RefArray n) e = ap (λ (m : Mode). Mode-F.RefArray m) (p.1 n e)
-level_equal (Mode-F.RefArray p) _ e = absurd cc
+level_equal (Mode-F.RefArray p) _ e = never e
 level_equal (Mode-F.Array k p) (Mode-F.Array j n) e =
     let counts : k ≡ j = equal_numbers k j (left_of (k == j) (same p.0 n) e) in
     let of : p.0 ≡ n = p.1 n (right_of (k == j) (same p.0 n) e) in
-    cc
-level_equal (Mode-F.Array k p) _ e = absurd cc
+    array_equal k j p.0 n counts of
+level_equal (Mode-F.Array k p) _ e = never e
 level_equal (Mode-F.Record k) (Mode-F.Record n) e = ap (λ (r : ℕ). Mode-F.Record r) (equal_numbers k n e)
-level_equal (Mode-F.Record k) _ e = absurd cc
+level_equal (Mode-F.Record k) _ e = never e
 level_equal (Mode-F.Proc ps None) (Mode-F.Proc qs q) e =
     let params : map (λ e. e.0) ps ≡ qs = all_equal ps qs (left_of (all_same (map same (map (λ e. e.0) ps)) qs) (result_same None q) e) in
     let answer : None ≡ q = result_equal None q (right_of (all_same (map same (map (λ e. e.0) ps)) qs) (result_same None q) e) in
     proc_equal _ _ _ _ params answer
-level_equal (Mode-F.Proc ps None) _ e = absurd cc
+level_equal (Mode-F.Proc ps None) _ e = never e
 level_equal (Mode-F.Proc ps (Some r)) (Mode-F.Proc qs q) e =
     let params : map (λ e. e.0) ps ≡ qs = all_equal ps qs (left_of (all_same (map same (map (λ e. e.0) ps)) qs) (result_same (Some (same r.0)) q) e) in
     let answer : Some r.0 ≡ q = result_equal (Some r) q (right_of (all_same (map same (map (λ e. e.0) ps)) qs) (result_same (Some (same r.0)) q) e) in
     proc_equal _ _ _ _ params answer
-level_equal (Mode-F.Proc ps (Some r)) _ e = absurd cc
+level_equal (Mode-F.Proc ps (Some r)) _ e = never e
 
 opened : (m : Mode) (y : Mode-F Pair) → out-Mode m ≡ plain y → Known m
 opened m y o n e =

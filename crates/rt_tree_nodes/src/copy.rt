@@ -1,6 +1,7 @@
 //! Copies of modes.
 
-ghost use Rattle.std.specs.Prelude.{◌≡◌, IfOk};
+ghost use Rattle.std.specs.Prelude.{◌≡◌, [], ◌∷◌, ◌++◌, IfOk, OnOk, IsOk, IsErr, MatchResult};
+ghost use Rattle.rt_modes.specs.declared.mode.Mode.TheVariants as variant;
 ghost use Rattle.rt_tree_nodes.specs.Code as seen;
 
 use crate::lent::{Lent, ValueMode};
@@ -13,20 +14,51 @@ use std::alloc::Global;
 pub fn copy_mode(alloc: Global, mode: &Mode) -> Result<Mode, Memory>
     ensures { IfOk result (λ m. m ≡ mode.now) }
 {
-    Ok(match mode {
-        Mode::Byte => Mode::Byte,
-        Mode::Int => Mode::Int,
-        Mode::Frac => Mode::Frac,
-        Mode::Label => Mode::Label,
-        Mode::Ref(to) => Mode::Ref(copy_boxed(alloc, to.get())?),
-        Mode::RefArray(of) => Mode::RefArray(copy_boxed(alloc, of.get())?),
-        Mode::Array(length, of) => Mode::Array(*length, copy_boxed(alloc, of.get())?),
-        Mode::Record(number) => Mode::Record(*number),
+    match mode {
+        Mode::Byte => Ok(Mode::Byte),
+        Mode::Int => Ok(Mode::Int),
+        Mode::Frac => Ok(Mode::Frac),
+        Mode::Label => Ok(Mode::Label),
+        Mode::Ref(to) => copy_reference(alloc, to.get()),
+        Mode::RefArray(of) => copy_row(alloc, of.get()),
+        Mode::Array(length, of) => copy_array(alloc, *length, of.get()),
+        Mode::Record(number) => Ok(Mode::Record(*number)),
         Mode::Proc(parameters, answer) => {
             let parameters = copy_modes(alloc, parameters.as_slice())?;
-            Mode::Proc(parameters, copy_answer(alloc, answer)?)
+            procedure(parameters, copy_answer(alloc, answer))
         }
-    })
+    }
+}
+
+#[cycle(copy)]
+fn copy_reference(alloc: Global, to: &Mode) -> Result<Mode, Memory>
+    ensures { IfOk result (λ m. m ≡ variant.Ref to.now) }
+{
+    Ok(Mode::Ref(copy_boxed(alloc, to)?))
+}
+
+#[cycle(copy)]
+fn copy_row(alloc: Global, of: &Mode) -> Result<Mode, Memory>
+    ensures { IfOk result (λ m. m ≡ variant.RefArray of.now) }
+{
+    Ok(Mode::RefArray(copy_boxed(alloc, of)?))
+}
+
+#[cycle(copy)]
+fn copy_array(alloc: Global, length: u16, of: &Mode) -> Result<Mode, Memory>
+    ensures { IfOk result (λ m. m ≡ variant.Array length of.now) }
+{
+    Ok(Mode::Array(length, copy_boxed(alloc, of)?))
+}
+
+/// A PROC mode, where the mode of its result was made.
+fn procedure(
+    parameters: List<Mode>,
+    answer: Result<Option<Boxed<Mode>>, Memory>,
+) -> Result<Mode, Memory>
+    ensures { MatchResult answer (λ a. IfOk result (λ m. m ≡ variant.Proc parameters a)) (λ e. IsErr result) }
+{
+    Ok(Mode::Proc(parameters, answer?))
 }
 
 #[cycle(copy)]
@@ -42,10 +74,30 @@ fn copy_modes(alloc: Global, modes: &[Mode]) -> Result<List<Mode>, Memory>
     ensures { IfOk result (λ ms. ms ≡ modes.now) }
 {
     let mut copied = List::new(alloc, modes.len())?;
-    for mode in modes {
-        copied.push(copy_mode(alloc, mode)?)?;
+    match copy_onto(alloc, modes, &mut copied) {
+        Ok(()) => Ok(copied),
+        Err(memory) => Err(memory),
     }
-    Ok(copied)
+}
+
+/// Appends copies of modes to an empty list.
+#[cycle(copy)]
+fn copy_onto(alloc: Global, modes: &[Mode], copied: &mut List<Mode>) -> Result<(), Memory>
+    requires { copied.old ≡ [] }
+    ensures { OnOk result (copied.new ≡ modes.now) }
+{
+    for mode in modes {
+        push_made(copied, copy_mode(alloc, mode))?;
+    }
+    Ok(())
+}
+
+/// Appends an element, where it was made.
+fn push_made<T: Drop>(list: &mut List<T>, made: Result<T, Memory>) -> Result<(), Memory>
+    ensures pushed { OnOk result (IfOk made (λ x. list.new ≡ list.old ++ x ∷ [])) }
+    ensures made { OnOk result (IsOk made) }
+{
+    list.push(made?)
 }
 
 #[cycle(copy)]

@@ -1,6 +1,6 @@
 //! What may be done with a place that was found.
 
-ghost use Rattle.std.specs.Prelude.{◌≡◌};
+ghost use Rattle.std.specs.Prelude.{◌≡◌, option_map};
 ghost use Rattle.std.specs.Option.{option_copied};
 ghost use Rattle.rt_modes.specs.declared.mode.Mode.{out-Mode};
 ghost use Rattle.rt_tree_nodes.specs.Code as seen;
@@ -61,14 +61,8 @@ impl<'a> Found<'a> {
         ensures { seen.place_found result ≡ typing.element_found (seen.found self.now) }
     {
         match self {
-            Found::Shared(mode) => match mode.element() {
-                Some(element) => Some(Found::Shared(Lent::Of(element))),
-                None => None,
-            },
-            Found::Private(mode) => match Lent::Of(mode).element() {
-                Some(element) => Some(Found::Private(element)),
-                None => None,
-            },
+            Found::Shared(mode) => shared(mode.element()),
+            Found::Private(mode) => private(Lent::Of(mode).element()),
             Found::Row(element) => Some(Found::Shared(*element)),
             _ => None,
         }
@@ -79,16 +73,29 @@ impl<'a> Found<'a> {
         ensures { seen.place_found result ≡ typing.field_found scope.now.records.now k (seen.found self.now) }
     {
         match self {
-            Found::Shared(mode) => match mode.field(scope, k) {
-                Some(field) => Some(Found::Shared(Lent::Of(field))),
-                None => None,
-            },
-            Found::Private(mode) => match Lent::Of(mode).field(scope, k) {
-                Some(field) => Some(Found::Private(field)),
-                None => None,
-            },
+            Found::Shared(mode) => shared(mode.field(scope, k)),
+            Found::Private(mode) => private(Lent::Of(mode).field(scope, k)),
             _ => None,
         }
+    }
+}
+
+fn shared(mode: Option<&Mode>) -> Option<Found<'_>>
+    ensures { seen.place_found result ≡ option_map typing.Shared (option_copied mode.entry) }
+{
+    match mode {
+        Some(mode) => Some(Found::Shared(Lent::Of(mode))),
+        None => None,
+    }
+}
+
+/// A field or an element of an item of which each task has its own.
+fn private(mode: Option<&Mode>) -> Option<Found<'_>>
+    ensures { seen.place_found result ≡ option_map typing.Private (option_copied mode.entry) }
+{
+    match mode {
+        Some(mode) => Some(Found::Private(mode)),
+        None => None,
     }
 }
 

@@ -275,10 +275,7 @@ impl<'a> Lent<'a> {
         ensures { result ≡ references_compare (seen.lent self.now) (seen.value_mode other.now) }
     {
         match self {
-            Lent::Of(mode) => match mode {
-                Mode::Ref(_) | Mode::RefArray(_) => other.is(mode),
-                _ => false,
-            },
+            Lent::Of(mode) => is_reference(mode) && other.is(mode),
             _ => false,
         }
     }
@@ -322,6 +319,12 @@ pub fn value_mode(mode: &Mode) -> Option<ValueMode<'_>>
         Mode::RefArray(element) => Some(ValueMode::Row(Lent::Of(element.get()))),
         _ => Some(ValueMode::Of(Lent::Of(mode))),
     }
+}
+
+fn is_reference(mode: &Mode) -> bool
+    ensures { result ≡ typing.is_reference (out-Mode mode.now) }
+{
+    matches!(mode, Mode::Ref(_) | Mode::RefArray(_))
 }
 
 fn answer_of(answer: &Option<Boxed<Mode>>) -> Option<ValueMode<'_>>

@@ -32,19 +32,21 @@ pub fn dyadic_mode<'a>(
 ) -> Option<ValueMode<'a>>
     ensures { seen.mode_found result ≡ typing.dyadic_mode operator (seen.value_mode left.entry) (seen.value_mode right.entry) }
 {
+    dyadic_by(operator, &left, &right)
+}
+
+fn dyadic_by<'a>(
+    operator: Op2,
+    left: &ValueMode<'a>,
+    right: &ValueMode<'a>,
+) -> Option<ValueMode<'a>>
+    ensures { seen.mode_found result ≡ typing.dyadic_mode operator (seen.value_mode left.now) (seen.value_mode right.now) }
+{
     match operator {
-        Op2::Sll | Op2::Srl | Op2::Sla | Op2::Sra => {
-            if right.is_int() { signed(left) } else { None }
-        }
+        Op2::Sll | Op2::Srl | Op2::Sla | Op2::Sra => shifted(left, right),
         Op2::Times | Op2::Divide | Op2::Mod | Op2::Land | Op2::Lor | Op2::Nev => whole(left, right),
-        Op2::FracTimes => only(left.is_frac() && right.is_frac(), Lent::Frac),
-        Op2::Plus | Op2::Minus => {
-            if left.is_frac() && right.is_frac() {
-                Some(ValueMode::Of(Lent::Frac))
-            } else {
-                whole(left, right)
-            }
-        }
+        Op2::FracTimes => only(are_fracs(left, right), Lent::Frac),
+        Op2::Plus | Op2::Minus => added(left, right),
     }
 }
 
@@ -79,8 +81,38 @@ fn signed<'a>(operand: ValueMode<'a>) -> Option<ValueMode<'a>>
     }
 }
 
-fn whole<'a>(left: ValueMode<'a>, right: ValueMode<'a>) -> Option<ValueMode<'a>>
-    ensures { seen.mode_found result ≡ typing.whole_mode (seen.value_mode left.entry) (seen.value_mode right.entry) }
+/// As the left one is, where the count of the shift is INT.
+fn shifted<'a>(left: &ValueMode<'a>, right: &ValueMode<'a>) -> Option<ValueMode<'a>>
+    ensures { seen.mode_found result ≡ typing.shift_mode (seen.value_mode left.now) (seen.value_mode right.now) }
 {
-    only(left.is_int() && right.is_int(), Lent::Int)
+    if right.is_int() { signed(*left) } else { None }
+}
+
+/// FRAC where both are, INT where both are.
+fn added<'a>(left: &ValueMode<'a>, right: &ValueMode<'a>) -> Option<ValueMode<'a>>
+    ensures { seen.mode_found result ≡ typing.alike_mode (seen.value_mode left.now) (seen.value_mode right.now) }
+{
+    if are_fracs(left, right) {
+        Some(ValueMode::Of(Lent::Frac))
+    } else {
+        whole(left, right)
+    }
+}
+
+fn whole<'a>(left: &ValueMode<'a>, right: &ValueMode<'a>) -> Option<ValueMode<'a>>
+    ensures { seen.mode_found result ≡ typing.whole_mode (seen.value_mode left.now) (seen.value_mode right.now) }
+{
+    only(are_ints(left, right), Lent::Int)
+}
+
+fn are_ints(left: &ValueMode<'_>, right: &ValueMode<'_>) -> bool
+    ensures { result ≡ typing.both typing.is_int (seen.value_mode left.now) (seen.value_mode right.now) }
+{
+    left.is_int() && right.is_int()
+}
+
+fn are_fracs(left: &ValueMode<'_>, right: &ValueMode<'_>) -> bool
+    ensures { result ≡ typing.both typing.is_frac (seen.value_mode left.now) (seen.value_mode right.now) }
+{
+    left.is_frac() && right.is_frac()
 }

@@ -1,5 +1,5 @@
 use Rattle.std.proofs.Common.{◌≡◌, take}
 use Rattle.rt_tree_nodes.proofs.copy.+copy.Given as goal
 
-abbrev pub invariant-copy_modes-loop-mode : goal.invariant-copy_modes-loop-mode
-invariant-copy_modes-loop-mode l = l.copied ≡ take l.mode-index l.modes
+abbrev pub invariant-copy_onto-loop-mode : goal.invariant-copy_onto-loop-mode
+invariant-copy_onto-loop-mode l = l.copied ≡ take l.mode-index l.modes
