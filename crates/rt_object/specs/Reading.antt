@@ -94,6 +94,10 @@ code_reader = do
   count ← word (within 0 16383)
   code_of count
 
+-- the procedure of a mode and of what stands behind it
+abbrev pub proc_of : Mode → (((ℕ × ℕ) × ℕ) × List Call) × ((List ℕ × List ℕ) × List Relocation) → ProcContent
+proc_of m inside = record { mode = m; items = inside.0.0.0.0; locals = inside.0.0.0.1; deep = inside.0.0.1; calls = inside.0.1; words = inside.1.0.0; marks = inside.1.0.1; relocations = inside.1.1 }
+
 -- ---- bricks, where there are these records, so many strings and so many bricks
 
 module _ (records : List RecordDef) (strings bricks : ℕ) where
@@ -153,6 +157,16 @@ module _ (records : List RecordDef) (strings bricks : ℕ) where
     code ← code_reader
     relocations ← relocations_reader 1 (length code.0)
     nothing (code, relocations)
+
+  -- a procedure of this mode, whose counts stand next
+  unfoldable pub behind_mode : Mode → Reader ProcContent
+  behind_mode m = do
+    items ← word any
+    locals ← word any
+    deep ← word any
+    calls ← calls_reader
+    body ← body_reader
+    nothing (proc_of m ((((items, locals), deep), calls), body))
 
   -- PROC: mode, items, locals, deep (words), calls, code, relocs
   unfoldable pub proc_reader : Reader ProcContent

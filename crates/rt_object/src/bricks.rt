@@ -7,13 +7,16 @@ ghost use Rattle.rt_object.specs.Grammar.{is_rrerr};
 ghost use Rattle.rt_object.specs.Known.{Knows};
 ghost use Rattle.rt_object.specs.Ranges.{brick_names, table_of};
 ghost use Rattle.rt_object.specs.Reading as reads;
+ghost use Rattle.rt_object.specs.declared.object.Content.TheVariants as content;
+ghost use Rattle.rt_object.specs.declared.object.DataContent.{DataContent};
+ghost use Rattle.rt_object.specs.declared.object.ProcContent.{ProcContent};
 ghost use Rattle.rt_sizes.specs.Capped.{AreSizes};
 
 use crate::data::{read_data, read_data_fields};
 use crate::known::Known;
 use crate::modes::read_proc_mode;
 use crate::names::{Names, read_new_name};
-use crate::object::{Brick, BrickKind, Content, External, Supplied};
+use crate::object::{Brick, BrickKind, Content, DataContent, External, ProcContent, Supplied};
 use crate::procs::read_proc;
 use crate::tag::{Kind, Sort, read_kind, read_sort};
 use rt_words::{List, Name, Stop, read_word_within};
@@ -111,19 +114,29 @@ fn read_content<'b>(
     ensures { Gives (λ x. (x.0, x.1.now)) result (reads.content_reader known.now.records.now known.now.strings known.now.bricks sort bytes.now) }
 {
     match sort {
-        Sort::Proc => {
-            let (content, rest) = read_proc(alloc, known, bytes)?;
-            Ok((Content::Proc(content), rest))
-        }
-        Sort::Data => {
-            let (content, rest) = read_data(alloc, known, bytes)?;
-            Ok((Content::Data(content), rest))
-        }
+        Sort::Proc => proc_content(read_proc(alloc, known, bytes)),
+        Sort::Data => data_content(read_data(alloc, known, bytes)),
         Sort::Stack => {
             let (words, rest) = read_word_within(1, 28672, bytes)?;
             Ok((Content::Stack(words), rest))
         }
     }
+}
+
+/// What holds a procedure, where one was read.
+fn proc_content(found: Result<(ProcContent, &[u8]), Stop>) -> Result<(Content, &[u8]), Stop>
+    ensures { (read : formats.Outcome ProcContent) → Gives (λ x. (x.0, x.1.now)) found.entry read → Gives (λ x. (x.0, x.1.now)) result (formats.and_then read (λ p. formats.nothing (content.Proc p))) }
+{
+    let (content, rest) = found?;
+    Ok((Content::Proc(content), rest))
+}
+
+/// What holds data, where they were read.
+fn data_content(found: Result<(DataContent, &[u8]), Stop>) -> Result<(Content, &[u8]), Stop>
+    ensures { (read : formats.Outcome DataContent) → Gives (λ x. (x.0, x.1.now)) found.entry read → Gives (λ x. (x.0, x.1.now)) result (formats.and_then read (λ d. formats.nothing (content.Data d))) }
+{
+    let (content, rest) = found?;
+    Ok((Content::Data(content), rest))
 }
 
 /// What is known of a brick of another module.

@@ -18,6 +18,7 @@ mod procs;
 mod read;
 mod records;
 mod relocations;
+mod steps;
 mod strings;
 mod tag;
 mod taken;

@@ -6,6 +6,7 @@ ghost use Rattle.rt_words.specs.Reading.{Gives};
 ghost use Rattle.rt_object.specs.Grammar.{is_no_label, is_proc, is_value, may_be};
 ghost use Rattle.rt_object.specs.Reading as reads;
 
+use crate::steps::passing;
 use rt_modes::{Mode, ModeFault, read_mode};
 use rt_words::Stop;
 use std::alloc::Global;
@@ -31,11 +32,8 @@ pub fn read_field_mode(
     ensures { Gives (λ x. (x.0, x.1.now)) result (formats.passing (may_be labels) (reads.mode_in records) bytes.now) }
 {
     let (mode, rest) = read_front_mode(alloc, records, bytes)?;
-    if labels || is_no_label(&mode) {
-        Ok((mode, rest))
-    } else {
-        Err(Stop::Refused(bytes.len()))
-    }
+    let passes = labels || is_no_label(&mode);
+    passing(passes, mode, rest, bytes.len())
 }
 
 /// The mode of a procedure.
@@ -43,11 +41,8 @@ pub fn read_proc_mode(alloc: Global, records: u16, bytes: &[u8]) -> Result<(Mode
     ensures { Gives (λ x. (x.0, x.1.now)) result (formats.passing is_proc (reads.mode_in records) bytes.now) }
 {
     let (mode, rest) = read_front_mode(alloc, records, bytes)?;
-    if is_proc(&mode) {
-        Ok((mode, rest))
-    } else {
-        Err(Stop::Refused(bytes.len()))
-    }
+    let passes = is_proc(&mode);
+    passing(passes, mode, rest, bytes.len())
 }
 
 /// The mode of a value that stands alone.
@@ -55,11 +50,8 @@ pub fn read_value_mode(alloc: Global, records: u16, bytes: &[u8]) -> Result<(Mod
     ensures { Gives (λ x. (x.0, x.1.now)) result (formats.passing is_value (reads.mode_in records) bytes.now) }
 {
     let (mode, rest) = read_front_mode(alloc, records, bytes)?;
-    if is_value(&mode) {
-        Ok((mode, rest))
-    } else {
-        Err(Stop::Refused(bytes.len()))
-    }
+    let passes = is_value(&mode);
+    passing(passes, mode, rest, bytes.len())
 }
 
 /// Whether a mode is no label.

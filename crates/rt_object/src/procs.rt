@@ -3,18 +3,30 @@
 ghost use Rattle.std.specs.Prelude.{◌≡◌, [], length};
 ghost use Rattle.rt_words.specs.Reading as formats;
 ghost use Rattle.rt_words.specs.Reading.{Gives};
+ghost use Rattle.rt_modes.specs.declared.mode.Mode.{Mode};
 ghost use Rattle.rt_object.specs.Reading as reads;
+ghost use Rattle.rt_object.specs.declared.object.ProcContent.{ProcContent};
 
 use crate::known::Known;
 use crate::modes::{read_proc_mode, read_value_mode};
 use crate::object::{Call, ProcContent, Relocation, Target};
 use crate::relocations::{read_below, read_relocations};
 use crate::tag::{Called, read_called};
+use rt_modes::Mode;
 use rt_words::{Bytes, List, Stop, read_bytes_within, read_word, read_word_within, read_words};
 use std::alloc::Global;
 
 /// The words of a code, and one mark for each.
 type Code = (List<u16>, Bytes);
+
+/// How many items, words of locals and words of temporaries a procedure has.
+type Counts = ((u16, u16), u16);
+
+/// A code and its relocations.
+type Body = (Code, List<Relocation>);
+
+/// What a procedure has behind its mode.
+type Inside = ((Counts, List<Call>), Body);
 
 #[tactic(auto, unfolding(crate::specs::Reading::proc_reader))]
 pub fn read_proc<'b>(
@@ -26,11 +38,15 @@ pub fn read_proc<'b>(
     ensures { Gives (λ x. (x.0, x.1.now)) result (reads.proc_reader known.now.records.now known.now.strings known.now.bricks bytes.now) }
 {
     let (mode, rest) = read_proc_mode(alloc, known.count, bytes)?;
-    let (items, rest) = read_word(rest)?;
-    let (locals, rest) = read_word(rest)?;
-    let (deep, rest) = read_word(rest)?;
-    let (calls, rest) = read_calls(alloc, known, rest)?;
-    let (((words, marks), relocations), rest) = read_body(alloc, known, rest)?;
+    proc_of(mode, read_inside(alloc, known, rest))
+}
+
+/// A procedure of a mode, where what stands behind the mode was read.
+fn proc_of(mode: Mode, inside: Result<(Inside, &[u8]), Stop>) -> Result<(ProcContent, &[u8]), Stop>
+    ensures { (read : formats.Outcome ProcContent) → Gives (λ x. (reads.proc_of mode x.0, x.1.now)) inside.entry read → Gives (λ x. (x.0, x.1.now)) result read }
+{
+    let (inside, rest) = inside?;
+    let ((((items, locals), deep), calls), ((words, marks), relocations)) = inside;
     Ok((
         ProcContent {
             mode,
@@ -46,13 +62,31 @@ pub fn read_proc<'b>(
     ))
 }
 
+/// What stands behind a mode.
+#[tactic(auto, unfolding(crate::specs::Reading::behind_mode))]
+fn read_inside<'b>(
+    alloc: Global,
+    known: &Known<'_>,
+    bytes: &'b [u8],
+) -> Result<(Inside, &'b [u8]), Stop>
+    requires { known.now.count ≡ length known.now.records.now }
+    ensures { (mode : Mode) → Gives (λ x. (reads.proc_of mode x.0, x.1.now)) result (reads.behind_mode known.now.records.now known.now.strings known.now.bricks mode bytes.now) }
+{
+    let (items, rest) = read_word(bytes)?;
+    let (locals, rest) = read_word(rest)?;
+    let (deep, rest) = read_word(rest)?;
+    let (calls, rest) = read_calls(alloc, known, rest)?;
+    let (body, rest) = read_body(alloc, known, rest)?;
+    Ok((((((items, locals), deep), calls), body), rest))
+}
+
 /// The code and its relocations.
 #[tactic(auto, unfolding(crate::specs::Reading::body_reader))]
 fn read_body<'b>(
     alloc: Global,
     known: &Known<'_>,
     bytes: &'b [u8],
-) -> Result<((Code, List<Relocation>), &'b [u8]), Stop>
+) -> Result<(Body, &'b [u8]), Stop>
     ensures { Gives (λ x. (x.0, x.1.now)) result (reads.body_reader known.now.records.now known.now.strings known.now.bricks bytes.now) }
 {
     let (code, rest) = read_code(alloc, bytes)?;
