@@ -7,6 +7,7 @@ use crate::stack::Stack;
 use rt_tree::{Datum, Location};
 use rt_words::{List, Memory};
 use std::alloc::Global;
+use std::rc::Rc;
 
 pub fn copy_location(alloc: Global, location: &Location) -> Result<Location, Memory>
     ensures { IfOk result (λ x. x ≡ location.now) }
@@ -40,6 +41,15 @@ pub fn copy_data(alloc: Global, data: &[Datum]) -> Result<List<Datum>, Memory>
     Ok(copy)
 }
 
+/// Two nodes that are shared once more.
+fn both<A: Drop, B: Drop>(left: &Rc<A>, right: &Rc<B>) -> Result<(Rc<A>, Rc<B>), Memory>
+    ensures left { IfOk result (λ x. x.0.value ≡ left.now.value) }
+    ensures right { IfOk result (λ x. x.1.value ≡ right.now.value) }
+{
+    let left = left.clone()?;
+    Ok((left, right.clone()?))
+}
+
 pub fn copy_item(item: &Item) -> Result<Item, Memory>
     ensures { IfOk result (λ x. n.item x ≡ n.item item.now) }
 {
@@ -63,16 +73,31 @@ pub fn copy_item(item: &Item) -> Result<Item, Memory>
         Item::Enter(b, vs) => Item::Enter(*b, vs.clone()?),
         Item::EnterBy(vs) => Item::EnterBy(vs.clone()?),
         Item::Local(i) => Item::Local(*i),
-        Item::Save(p, v) => Item::Save(p.clone()?, v.clone()?),
+        Item::Save(p, v) => {
+            let (p, v) = both(p, v)?;
+            Item::Save(p, v)
+        }
         Item::Toss => Item::Toss,
-        Item::Compare(r, a, b) => Item::Compare(*r, a.clone()?, b.clone()?),
+        Item::Compare(r, a, b) => {
+            let (a, b) = both(a, b)?;
+            Item::Compare(*r, a, b)
+        }
         Item::Try(t) => Item::Try(t.clone()?),
         Item::AndThen(t) => Item::AndThen(t.clone()?),
         Item::OrElse(t) => Item::OrElse(t.clone()?),
-        Item::Choose(a, b) => Item::Choose(a.clone()?, b.clone()?),
+        Item::Choose(a, b) => {
+            let (a, b) = both(a, b)?;
+            Item::Choose(a, b)
+        }
         Item::PastElse => Item::PastElse,
-        Item::Decide(t, q) => Item::Decide(t.clone()?, q.clone()?),
-        Item::Again(t, q) => Item::Again(t.clone()?, q.clone()?),
+        Item::Decide(t, q) => {
+            let (t, q) = both(t, q)?;
+            Item::Decide(t, q)
+        }
+        Item::Again(t, q) => {
+            let (t, q) = both(t, q)?;
+            Item::Again(t, q)
+        }
         Item::CountFor(i, q) => Item::CountFor(*i, q.clone()?),
         Item::TurnFor(i, q) => Item::TurnFor(*i, q.clone()?),
         Item::CountTo(i, q) => Item::CountTo(*i, q.clone()?),
