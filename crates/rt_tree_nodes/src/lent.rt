@@ -138,14 +138,8 @@ impl<'a> ValueMode<'a> {
     {
         match self {
             ValueMode::Of(mode) => mode.is(wanted),
-            ValueMode::Reference(target) => match wanted {
-                Mode::Ref(mode) => target.is(mode.get()),
-                _ => false,
-            },
-            ValueMode::Row(element) => match wanted {
-                Mode::RefArray(mode) => element.is(mode.get()),
-                _ => false,
-            },
+            ValueMode::Reference(target) => target.is_target_of(wanted),
+            ValueMode::Row(element) => element.is_element_of(wanted),
         }
     }
 
@@ -219,13 +213,7 @@ impl<'a> ValueMode<'a> {
         ensures { result ≡ same (variant.Ref (seen.lent target.now)) (seen.value_mode self.now) }
     {
         match self {
-            ValueMode::Of(mode) => match mode {
-                Lent::Of(mode) => match mode {
-                    Mode::Ref(mode) => target.same(&Lent::Of(mode.get())),
-                    _ => false,
-                },
-                _ => false,
-            },
+            ValueMode::Of(mode) => mode.is_reference_to(target),
             ValueMode::Reference(mode) => target.same(mode),
             ValueMode::Row(_) => false,
         }
@@ -235,13 +223,7 @@ impl<'a> ValueMode<'a> {
         ensures { result ≡ same (variant.RefArray (seen.lent element.now)) (seen.value_mode self.now) }
     {
         match self {
-            ValueMode::Of(mode) => match mode {
-                Lent::Of(mode) => match mode {
-                    Mode::RefArray(mode) => element.same(&Lent::Of(mode.get())),
-                    _ => false,
-                },
-                _ => false,
-            },
+            ValueMode::Of(mode) => mode.is_row_of(element),
             ValueMode::Reference(_) => false,
             ValueMode::Row(mode) => element.same(mode),
         }
@@ -260,6 +242,44 @@ impl<'a> ValueMode<'a> {
 }
 
 impl<'a> Lent<'a> {
+    /// Whether a mode is REF this one.
+    fn is_target_of(&self, mode: &Mode) -> bool
+        ensures { result ≡ same mode.now (variant.Ref (seen.lent self.now)) }
+    {
+        match mode {
+            Mode::Ref(target) => self.is(target.get()),
+            _ => false,
+        }
+    }
+
+    /// Whether a mode is REF ARRAY this one.
+    fn is_element_of(&self, mode: &Mode) -> bool
+        ensures { result ≡ same mode.now (variant.RefArray (seen.lent self.now)) }
+    {
+        match mode {
+            Mode::RefArray(element) => self.is(element.get()),
+            _ => false,
+        }
+    }
+
+    fn is_reference_to(&self, target: &Lent<'_>) -> bool
+        ensures { result ≡ same (variant.Ref (seen.lent target.now)) (seen.lent self.now) }
+    {
+        match self {
+            Lent::Of(mode) => leads_to(mode, target),
+            _ => false,
+        }
+    }
+
+    fn is_row_of(&self, element: &Lent<'_>) -> bool
+        ensures { result ≡ same (variant.RefArray (seen.lent element.now)) (seen.lent self.now) }
+    {
+        match self {
+            Lent::Of(mode) => leads_to_row(mode, element),
+            _ => false,
+        }
+    }
+
     fn same_value(&self, other: &ValueMode<'_>) -> bool
         ensures { result ≡ same (seen.lent self.now) (seen.value_mode other.now) }
     {
@@ -318,6 +338,24 @@ pub fn value_mode(mode: &Mode) -> Option<ValueMode<'_>>
         Mode::Ref(target) => Some(ValueMode::Reference(Lent::Of(target.get()))),
         Mode::RefArray(element) => Some(ValueMode::Row(Lent::Of(element.get()))),
         _ => Some(ValueMode::Of(Lent::Of(mode))),
+    }
+}
+
+fn leads_to(mode: &Mode, target: &Lent<'_>) -> bool
+    ensures { result ≡ same (variant.Ref (seen.lent target.now)) mode.now }
+{
+    match mode {
+        Mode::Ref(to) => target.same(&Lent::Of(to.get())),
+        _ => false,
+    }
+}
+
+fn leads_to_row(mode: &Mode, element: &Lent<'_>) -> bool
+    ensures { result ≡ same (variant.RefArray (seen.lent element.now)) mode.now }
+{
+    match mode {
+        Mode::RefArray(of) => element.same(&Lent::Of(of.get())),
+        _ => false,
     }
 }
 

@@ -1,6 +1,7 @@
 //! Modes that are the same.
 
 ghost use Rattle.std.specs.Prelude.{◌≡◌, map, option_map};
+ghost use Rattle.rt_modes.specs.declared.mode.Mode.TheVariants as variant;
 ghost use Rattle.rt_tree_nodes.specs.Scopes.{same, all_same, result_same};
 
 use rt_modes::Mode;
@@ -16,26 +17,56 @@ pub fn same_mode(a: &Mode, b: &Mode) -> bool
         Mode::Int => matches!(b, Mode::Int),
         Mode::Frac => matches!(b, Mode::Frac),
         Mode::Label => matches!(b, Mode::Label),
-        Mode::Ref(m) => match b {
-            Mode::Ref(n) => same_mode(m.get(), n.get()),
-            _ => false,
-        },
-        Mode::RefArray(m) => match b {
-            Mode::RefArray(n) => same_mode(m.get(), n.get()),
-            _ => false,
-        },
-        Mode::Array(k, m) => match b {
-            Mode::Array(l, n) => k == l && same_mode(m.get(), n.get()),
-            _ => false,
-        },
-        Mode::Record(k) => match b {
-            Mode::Record(l) => k == l,
-            _ => false,
-        },
+        Mode::Ref(m) => leads_to(m.get(), b),
+        Mode::RefArray(m) => is_row_of(m.get(), b),
+        Mode::Array(k, m) => is_array_of(m.get(), *k, b),
+        Mode::Record(k) => is_record(b, *k),
         Mode::Proc(ms, m) => match b {
             Mode::Proc(ns, n) => same_modes(ms.as_slice(), ns.as_slice()) && same_result(m, n),
             _ => false,
         },
+    }
+}
+
+/// Whether a mode is REF one.
+#[cycle(same_modes)]
+fn leads_to(target: &Mode, mode: &Mode) -> bool
+    ensures { result ≡ same (variant.Ref target.now) mode.now }
+{
+    match mode {
+        Mode::Ref(to) => same_mode(target, to.get()),
+        _ => false,
+    }
+}
+
+/// Whether a mode is REF ARRAY one.
+#[cycle(same_modes)]
+fn is_row_of(element: &Mode, mode: &Mode) -> bool
+    ensures { result ≡ same (variant.RefArray element.now) mode.now }
+{
+    match mode {
+        Mode::RefArray(of) => same_mode(element, of.get()),
+        _ => false,
+    }
+}
+
+/// Whether a mode is that of so many elements of one.
+#[cycle(same_modes)]
+fn is_array_of(element: &Mode, length: u16, mode: &Mode) -> bool
+    ensures { result ≡ same (variant.Array length element.now) mode.now }
+{
+    match mode {
+        Mode::Array(k, of) => *k == length && same_mode(element, of.get()),
+        _ => false,
+    }
+}
+
+fn is_record(mode: &Mode, number: u16) -> bool
+    ensures { result ≡ same (variant.Record number) mode.now }
+{
+    match mode {
+        Mode::Record(k) => *k == number,
+        _ => false,
     }
 }
 
