@@ -34,8 +34,8 @@ pub fn read_each_brick<'b>(
     requires sizes { AreSizes (table_of known.now.records.now) known.now.sizes.now }
     ensures { Gives (λ x. (x.0, x.1.now)) result (formats.each (reads.brick_reader known.now.records.now known.now.strings known.now.bricks) known.now.bricks [] bytes.now) }
 {
-    let mut names = BTreeSet::new(alloc);
     let mut found = List::new(alloc, 0)?;
+    let mut names = BTreeSet::new(alloc);
     let mut rest = bytes;
     for _turn in 0..known.bricks {
         let (brick, after) = read_brick(alloc, known, &mut names, found.as_slice(), rest)?;

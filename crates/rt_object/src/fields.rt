@@ -39,8 +39,8 @@ fn read_each_field(
 ) -> Result<(List<Field>, &[u8]), Stop>
     ensures { Gives (λ x. (x.0, x.1.now)) result (formats.each (reads.field_reader records labels) count [] bytes.now) }
 {
-    let mut names = BTreeSet::new(alloc);
     let mut found = List::new(alloc, 0)?;
+    let mut names = BTreeSet::new(alloc);
     let mut rest = bytes;
     for _turn in 0..count {
         let (field, after) = read_field(

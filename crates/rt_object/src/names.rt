@@ -6,6 +6,7 @@ ghost use Rattle.rt_words.specs.Reading.{Gives};
 ghost use Rattle.rt_object.specs.Grammar.{is_new};
 ghost use Rattle.rt_object.specs.Known.{Knows};
 
+use crate::steps::passing;
 use rt_words::{Memory, Name, Stop, read_name};
 use std::alloc::Global;
 use std::collections::BTreeSet;
@@ -23,11 +24,8 @@ pub fn read_new_name<'b>(
     ensures known { (before : List (List ℕ)) → Knows names.old before → IfOk result (λ x. Knows names.new (before ++ x.0 ∷ [])) }
 {
     let (name, rest) = read_name(alloc, bytes)?;
-    if note(alloc, names, name.as_slice())? {
-        Ok((name, rest))
-    } else {
-        Err(Stop::Refused(bytes.len()))
-    }
+    let is_new = note(alloc, names, name.as_slice())?;
+    passing(is_new, name, rest, bytes.len())
 }
 
 /// Notes a name; false where it is among those so far.

@@ -54,8 +54,8 @@ fn read_each_record(
     ensures records { Gives (λ x. (x.0, x.1.now)) result (formats.each (reads.record_reader records) count [] bytes.now) }
     ensures number { IfOk result (λ x. length x.0 ≡ count) }
 {
-    let mut names = BTreeSet::new(alloc);
     let mut found = List::new(alloc, 0)?;
+    let mut names = BTreeSet::new(alloc);
     let mut rest = bytes;
     for _turn in 0..count {
         let (definition, after) = read_record(alloc, records, &mut names, found.as_slice(), rest)?;
