@@ -1,6 +1,6 @@
 //! The plain trees of places, values and calls.
 
-ghost use Rattle.std.specs.Prelude.{◌≡◌, IfOk, map};
+ghost use Rattle.std.specs.Prelude.{◌≡◌, IfOk, List, map};
 ghost use Rattle.rt_tree_nodes.specs.Code as seen;
 ghost use Rattle.rt_tree_nodes.specs.Tree as tree;
 ghost use Rattle.rt_tree_nodes.specs.Typing as typing;
@@ -8,10 +8,10 @@ ghost use Rattle.rt_work_state.specs.Nodes as n;
 ghost use Rattle.rt_resolve.specs.Trees as trees;
 
 use crate::join::joined_terms;
-use crate::share::shared;
+use crate::share::{beside_made, both, both_made, push_made, shared};
 use crate::spot::{Spot, element, field, led, length, read, reference};
 use rt_modes::Mode;
-use rt_tree::{Callee, Op2, Place, Scope, Value, ValueMode, found_at, mode_of};
+use rt_tree::{Callee, Found, Op1, Op2, Place, Scope, Value, ValueMode, found_at, mode_of};
 use rt_tree_nodes::copy_value_mode;
 use rt_words::{List, Memory};
 use rt_work_state::{PathNode, TermNode, TermsNode};
@@ -28,17 +28,20 @@ pub fn spot(alloc: Global, scope: &Scope<'_>, place: &Place) -> Result<Spot, Mem
         Place::Item(b, j) => Ok(Spot::Path(PathNode::ItemAt(*b, *j))),
         Place::Svc(k) => Ok(Spot::Path(PathNode::Svc(*k))),
         Place::Field(record, k) => {
-            let inner = spot(alloc, scope, record.get())?;
-            field(alloc, inner, &found_at(scope, record.get()), *k)
+            let record = record.get();
+            let inner = spot(alloc, scope, record);
+            field_of(alloc, inner, &found_at(scope, record), *k)
         }
         Place::Element(array, subscript) => {
-            let subscript = shared(alloc, term(alloc, scope, subscript.get())?)?;
-            let inner = spot(alloc, scope, array.get())?;
-            element(alloc, inner, &found_at(scope, array.get()), subscript)
+            let subscript = term(alloc, scope, subscript.get())?;
+            let array = array.get();
+            let inner = spot(alloc, scope, array);
+            element_of(alloc, inner, &found_at(scope, array), subscript)
         }
         Place::Through(reference) => {
-            let value = term(alloc, scope, reference.get())?;
-            led(alloc, &mode_of(scope, reference.get()), value)
+            let reference = reference.get();
+            let value = term(alloc, scope, reference);
+            led_by(alloc, &mode_of(scope, reference), value)
         }
     }
 }
@@ -53,25 +56,26 @@ pub fn term(alloc: Global, scope: &Scope<'_>, value: &Value) -> Result<TermNode,
         Value::Text(k) => Ok(TermNode::Str(*k)),
         Value::Proc(b) => Ok(TermNode::Name(*b)),
         Value::Read(place) => {
-            let inner = spot(alloc, scope, place.get())?;
-            read(alloc, inner, &found_at(scope, place.get()))
+            let place = place.get();
+            let inner = spot(alloc, scope, place);
+            read_at(alloc, inner, &found_at(scope, place))
         }
         Value::Reference(place) => {
-            let inner = spot(alloc, scope, place.get())?;
-            reference(alloc, inner, &found_at(scope, place.get()))
+            let place = place.get();
+            let inner = spot(alloc, scope, place);
+            reference_to(alloc, inner, &found_at(scope, place))
         }
         Value::Length(place) => {
-            let inner = spot(alloc, scope, place.get())?;
-            length(alloc, inner, &found_at(scope, place.get()))
+            let place = place.get();
+            let inner = spot(alloc, scope, place);
+            length_of(alloc, inner, &found_at(scope, place))
         }
         Value::Monadic(operator, operand) => {
-            let operand = term(alloc, scope, operand.get())?;
-            Ok(TermNode::One(*operator, shared(alloc, operand)?))
+            monadic(alloc, *operator, term(alloc, scope, operand.get()))
         }
         Value::Dyadic(operator, left, right) => {
-            let left = shared(alloc, term(alloc, scope, left.get())?)?;
-            let right = shared(alloc, term(alloc, scope, right.get())?)?;
-            Ok(dyadic(*operator, left, right))
+            let left = term(alloc, scope, left.get())?;
+            dyadic(alloc, *operator, left, term(alloc, scope, right.get()))
         }
         Value::Call(callee, arguments) => {
             let arguments = arguments_of(alloc, scope, arguments.as_slice())?;
@@ -85,8 +89,7 @@ pub fn term(alloc: Global, scope: &Scope<'_>, value: &Value) -> Result<TermNode,
 fn arguments_of(alloc: Global, scope: &Scope<'_>, values: &[Value]) -> Result<TermsNode, Memory>
     ensures { IfOk result (λ ts. n.terms ts ≡ typing.terms_of (map (typing.valued (seen.scope scope.now)) values.now)) }
 {
-    let made = terms(alloc, scope, values)?;
-    joined_terms(alloc, made)
+    joined(alloc, terms(alloc, scope, values))
 }
 
 /// The plain trees of values.
@@ -96,7 +99,7 @@ fn terms(alloc: Global, scope: &Scope<'_>, values: &[Value]) -> Result<List<Term
 {
     let mut made = List::new(alloc, values.len())?;
     for value in values {
-        made.push(term(alloc, scope, value)?)?;
+        push_made(&mut made, term(alloc, scope, value))?;
     }
     Ok(made)
 }
@@ -111,39 +114,13 @@ fn call(
 ) -> Result<TermNode, Memory>
     ensures { IfOk result (λ t. n.term t ≡ (typing.called (seen.scope scope.now) callee.now).tree (n.terms arguments)) }
 {
-    let arguments = shared(alloc, arguments)?;
     match callee {
-        Callee::Brick(b) => Ok(TermNode::Apply(*b, arguments)),
+        Callee::Brick(b) => apply(alloc, *b, arguments),
         Callee::Through(value) => {
-            let procedure = term(alloc, scope, value.get())?;
-            call_by(alloc, &mode_of(scope, value.get()), procedure, arguments)
+            let value = value.get();
+            let procedure = term(alloc, scope, value);
+            call_by(alloc, &mode_of(scope, value), procedure, arguments)
         }
-    }
-}
-
-/// The plain tree of the call of a value.
-fn call_by(
-    alloc: Global,
-    mode: &Option<ValueMode<'_>>,
-    procedure: TermNode,
-    arguments: Rc<TermsNode>,
-) -> Result<TermNode, Memory>
-    ensures { IfOk result (λ t. n.term t ≡ tree.ApplyBy (typing.mode_or_int (seen.mode_found mode.now)) (n.term procedure) (n.terms arguments.value)) }
-{
-    let procedure = shared(alloc, procedure)?;
-    let mode = match mode {
-        Some(mode) => copy_value_mode(alloc, mode)?,
-        None => Mode::Int,
-    };
-    Ok(TermNode::ApplyBy(mode, procedure, arguments))
-}
-
-fn dyadic(operator: Op2, left: Rc<TermNode>, right: Rc<TermNode>) -> TermNode
-    ensures { n.term result ≡ typing.dyadic_tree operator (n.term left.value) (n.term right.value) }
-{
-    match operator {
-        Op2::Divide | Op2::Mod => TermNode::Over(operator, left, right),
-        _ => TermNode::Two(operator, left, right),
     }
 }
 
@@ -153,4 +130,148 @@ pub fn shared_term(alloc: Global, scope: &Scope<'_>, value: &Value) -> Result<Rc
 {
     let value = term(alloc, scope, value)?;
     shared(alloc, value)
+}
+
+// ---- what is made of the trees of the parts, where these were made
+
+fn field_of(
+    alloc: Global,
+    inner: Result<Spot, Memory>,
+    found: &Option<Found<'_>>,
+    k: u16,
+) -> Result<Spot, Memory>
+    ensures { (p : typing.Placed) → seen.place_found found.now ≡ p.found → IfOk inner (λ s. trees.spot s ≡ p.tree) → IfOk result (λ s. trees.spot s ≡ typing.field_tree p k) }
+{
+    match inner {
+        Ok(inner) => field(alloc, inner, found, k),
+        Err(memory) => Err(memory),
+    }
+}
+
+fn element_of(
+    alloc: Global,
+    array: Result<Spot, Memory>,
+    found: &Option<Found<'_>>,
+    subscript: TermNode,
+) -> Result<Spot, Memory>
+    ensures { (p : typing.Placed) (x : tree.Term) → seen.place_found found.now ≡ p.found → IfOk array (λ s. trees.spot s ≡ p.tree) → n.term subscript ≡ x → IfOk result (λ s. trees.spot s ≡ typing.element_in p.found p.tree x) }
+{
+    let (subscript, array) = beside_made(alloc, subscript, array)?;
+    element(alloc, array, found, subscript)
+}
+
+fn led_by(
+    alloc: Global,
+    mode: &Option<ValueMode<'_>>,
+    reference: Result<TermNode, Memory>,
+) -> Result<Spot, Memory>
+    ensures { (v : typing.Valued) → seen.mode_found mode.now ≡ v.mode → IfOk reference (λ t. n.term t ≡ v.tree) → IfOk result (λ s. trees.spot s ≡ typing.led_tree v.mode v.tree) }
+{
+    match reference {
+        Ok(reference) => led(alloc, mode, reference),
+        Err(memory) => Err(memory),
+    }
+}
+
+fn read_at(
+    alloc: Global,
+    place: Result<Spot, Memory>,
+    found: &Option<Found<'_>>,
+) -> Result<TermNode, Memory>
+    ensures { (p : typing.Placed) → seen.place_found found.now ≡ p.found → IfOk place (λ s. trees.spot s ≡ p.tree) → IfOk result (λ t. n.term t ≡ typing.read_tree p) }
+{
+    match place {
+        Ok(place) => read(alloc, place, found),
+        Err(memory) => Err(memory),
+    }
+}
+
+fn reference_to(
+    alloc: Global,
+    place: Result<Spot, Memory>,
+    found: &Option<Found<'_>>,
+) -> Result<TermNode, Memory>
+    ensures { (p : typing.Placed) → seen.place_found found.now ≡ p.found → IfOk place (λ s. trees.spot s ≡ p.tree) → IfOk result (λ t. n.term t ≡ typing.reference_tree p) }
+{
+    match place {
+        Ok(place) => reference(alloc, place, found),
+        Err(memory) => Err(memory),
+    }
+}
+
+fn length_of(
+    alloc: Global,
+    place: Result<Spot, Memory>,
+    found: &Option<Found<'_>>,
+) -> Result<TermNode, Memory>
+    ensures { (p : typing.Placed) → seen.place_found found.now ≡ p.found → IfOk place (λ s. trees.spot s ≡ p.tree) → IfOk result (λ t. n.term t ≡ typing.length_tree p) }
+{
+    match place {
+        Ok(place) => length(alloc, place, found),
+        Err(memory) => Err(memory),
+    }
+}
+
+fn monadic(
+    alloc: Global,
+    operator: Op1,
+    operand: Result<TermNode, Memory>,
+) -> Result<TermNode, Memory>
+    ensures { (x : tree.Term) → IfOk operand (λ t. n.term t ≡ x) → IfOk result (λ t. n.term t ≡ tree.One operator x) }
+{
+    Ok(TermNode::One(operator, shared(alloc, operand?)?))
+}
+
+fn dyadic(
+    alloc: Global,
+    operator: Op2,
+    left: TermNode,
+    right: Result<TermNode, Memory>,
+) -> Result<TermNode, Memory>
+    ensures { (x y : tree.Term) → n.term left ≡ x → IfOk right (λ t. n.term t ≡ y) → IfOk result (λ t. n.term t ≡ typing.dyadic_tree operator x y) }
+{
+    let (left, right) = both_made(alloc, left, right)?;
+    Ok(match operator {
+        Op2::Divide | Op2::Mod => TermNode::Over(operator, left, right),
+        _ => TermNode::Two(operator, left, right),
+    })
+}
+
+fn joined(alloc: Global, terms: Result<List<TermNode>, Memory>) -> Result<TermsNode, Memory>
+    ensures { (xs : List tree.Term) → IfOk terms (λ ts. map n.term ts ≡ xs) → IfOk result (λ ts. n.terms ts ≡ trees.build tree.MoreTerms xs tree.NoTerm) }
+{
+    match terms {
+        Ok(terms) => joined_terms(alloc, terms),
+        Err(memory) => Err(memory),
+    }
+}
+
+fn apply(alloc: Global, brick: u16, arguments: TermsNode) -> Result<TermNode, Memory>
+    ensures { IfOk result (λ t. n.term t ≡ tree.Apply brick (n.terms arguments)) }
+{
+    Ok(TermNode::Apply(brick, shared(alloc, arguments)?))
+}
+
+// The plain tree of the call of a value.
+fn call_by(
+    alloc: Global,
+    mode: &Option<ValueMode<'_>>,
+    procedure: Result<TermNode, Memory>,
+    arguments: TermsNode,
+) -> Result<TermNode, Memory>
+    ensures { (v : typing.Valued) → seen.mode_found mode.now ≡ v.mode → IfOk procedure (λ t. n.term t ≡ v.tree) → IfOk result (λ t. n.term t ≡ tree.ApplyBy (typing.mode_or_int v.mode) v.tree (n.terms arguments)) }
+{
+    let parts = both_made(alloc, arguments, procedure)?;
+    let (parts, mode) = both(parts, mode_or_int(alloc, mode))?;
+    let (arguments, procedure) = parts;
+    Ok(TermNode::ApplyBy(mode, procedure, arguments))
+}
+
+fn mode_or_int(alloc: Global, mode: &Option<ValueMode<'_>>) -> Result<Mode, Memory>
+    ensures { IfOk result (λ m. m ≡ typing.mode_or_int (seen.mode_found mode.now)) }
+{
+    match mode {
+        Some(mode) => copy_value_mode(alloc, mode),
+        None => Ok(Mode::Int),
+    }
 }
