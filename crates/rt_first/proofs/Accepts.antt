@@ -1,6 +1,6 @@
 -- Why a file isn't accepted, in its turn.
 use Rattle.std.proofs.Common.{◌≡◌, ℕ, zero, suc, ◌≤◌, List, [], ◌∷◌, Option, subst, sym, inl, inr, arith}
-use Rattle.std.specs.Prelude.{◌⊎◌}
+use Rattle.std.specs.Prelude.{◌⊎◌, Result, Ok, Err, IfErr}
 use Rattle.std.specs.List.{AllByRecursion}
 use Rattle.std.specs.Str.{IsAscii}
 use Rattle.rt_outside.specs.Files.{Files, WhereTold, IsTold, Lacks, HasTooLong}
@@ -57,3 +57,7 @@ pub rises : (files files2 : Option Files) (reads reads2 now : List ℕ → ℕ) 
 rises files files2 reads reads2 now g Memory e h k = tt
 rises files files2 reads reads2 now g (Refused r file) e h k = subst (λ f. Refuses f g r file) e k
 rises files files2 reads reads2 now g (Unread file) e h k = (subst (λ f. IsInTurn f g file) e k.0, wider (reads file) (reads2 file) (now file) (now file) (h file) k.1 (omega arith))
+
+pub rises_in : {A : Type 0} (files files2 : Option Files) (reads reads2 now : List ℕ → ℕ) (g : Go) (r : Result A Unaccepted) → files2 ≡ files → ((n : List ℕ) → reads n ≤ reads2 n) → IfErr r (λ u. IsRefused files2 reads2 now g u) → IfErr r (λ u. IsRefused files reads now g u)
+rises_in files files2 reads reads2 now g (Ok x) e h k = tt
+rises_in files files2 reads reads2 now g (Err u) e h k = rises files files2 reads reads2 now g u e h k

@@ -1,4 +1,6 @@
-ghost use Rattle.std.specs.Prelude.{◌≡◌, ◌≤◌, ℕ, List, IfOk, IfErr, string_bytes};
+ghost use Rattle.std.specs.Prelude.{◌≡◌, ◌≤◌, ℕ, List, Option, IfOk, IfErr, string_bytes};
+ghost use Rattle.rt_outside.specs.Files.{Files};
+ghost use Rattle.rt_first.specs.Words.{Go};
 ghost use Rattle.rt_first.specs.GoWords.{go_of};
 ghost use Rattle.rt_first.specs.Outcome.{IsFile, HasSystem, HasNoTicks, Accepts};
 ghost use Rattle.rt_first.specs.Accepting.{IsUnread, IsRefused, IsRefusalOf, IsFailureOf};
@@ -11,7 +13,6 @@ use rt_outside::{Store, StoreError};
 use rt_words::Bytes;
 use std::alloc::Global;
 use std::str;
-use thiserror::Error;
 
 /// A system that is accepted.
 #[derive(Drop)]
@@ -21,16 +22,13 @@ pub struct Accepted {
 }
 
 /// Why a system isn't accepted.
-#[derive(Debug, Drop, Error)]
+#[derive(Drop)]
 pub enum Unaccepted {
     /// Memory was wanted and isn't there.
-    #[error("out of memory")]
     Memory,
     /// The file is refused.
-    #[error("a file is refused")]
     Refused { refusal: Refusal, file: Bytes },
     /// The read of the file failed.
-    #[error("a file can't be read")]
     Unread { file: Bytes },
 }
 
@@ -41,15 +39,45 @@ pub fn accept<S: Store>(alloc: Global, store: &mut S, go: &GoWords) -> Result<Ac
     ensures unchanged { S.files store.new ≡ S.files store.old }
     ensures writes_later { (other : List ℕ) → S.write_faults store.old other ≤ S.write_faults store.new other }
 {
-    let system = match accept_system(alloc, store, go) {
-        Ok(system) => system,
-        Err(why) => return Err(why),
-    };
-    if let Err(why) = accept_ticks(alloc, store, go, &system) {
-        return Err(why);
+    match accept_system(alloc, store, go) {
+        Ok(system) => {
+            let module = accept_others(alloc, store, go, &system);
+            with_module(system, module)
+        }
+        Err(why) => Err(why),
     }
-    match accept_module(alloc, store, go, &system) {
+}
+
+// A system with its module, where that is accepted.
+fn with_module(
+    system: FirstSystem,
+    found: Result<FirstModule, Unaccepted>,
+) -> Result<Accepted, Unaccepted>
+    ensures ok { (files : Option Files) (g : Go) → IfOk found (λ m. Accepts files g system m) → IfOk result (λ a. Accepts files g a.system a.module) }
+    ensures err { (files : Option Files) (g : Go) (reads now : List ℕ → ℕ) → IfErr found (λ u. IsRefused files reads now g u) → IfErr result (λ u. IsRefused files reads now g u) }
+{
+    match found {
         Ok(module) => Ok(Accepted { system, module }),
+        Err(why) => Err(why),
+    }
+}
+
+// The files behind the system's text, in their order.
+fn accept_others<S: Store>(
+    alloc: Global,
+    store: &mut S,
+    go: &GoWords,
+    system: &FirstSystem,
+) -> Result<FirstModule, Unaccepted>
+    requires { HasSystem (S.files store.old) (go_of go.now) system.now }
+    ensures ok { IfOk result (λ m. Accepts (S.files store.old) (go_of go.now) system.now m) }
+    ensures err { IfErr result (λ u. IsRefused (S.files store.old) (S.read_faults store.old) (S.read_faults store.new) (go_of go.now) u) }
+    ensures unchanged { S.files store.new ≡ S.files store.old }
+    ensures reads_later { (other : List ℕ) → S.read_faults store.old other ≤ S.read_faults store.new other }
+    ensures writes_later { (other : List ℕ) → S.write_faults store.old other ≤ S.write_faults store.new other }
+{
+    match accept_ticks(alloc, store, go, system) {
+        Ok(()) => accept_module(alloc, store, go, system),
         Err(why) => Err(why),
     }
 }

@@ -1,7 +1,10 @@
-ghost use Rattle.std.specs.Prelude.{◌≡◌, ◌≤◌, ◌++◌, IfOk, codes, string_bytes};
+ghost use Rattle.std.specs.Prelude.{◌≡◌, ◌≤◌, ◌<◌, ◌^◌, ◌++◌, [], IfOk, codes, length, string_bytes};
 ghost use Rattle.rt_first.specs.GoWords.{go_of};
 ghost use Rattle.rt_first.specs.Code.{Fits, FitsTask, image_of};
+ghost use Rattle.rt_first.specs.Image.{InRanges, spelling};
+ghost use Rattle.rt_first.specs.Machine.{start};
 ghost use Rattle.rt_first.specs.Prepared.{IsPrepared};
+ghost use Rattle.rt_first.specs.Running.{state_of_machine};
 
 use crate::accept::Accepted;
 use crate::compile::compile;
@@ -34,11 +37,8 @@ pub fn prepare(alloc: Global, go: &GoWords, accepted: &Accepted) -> Result<Prepa
     ensures { IfOk result (λ p. IsPrepared (go_of go.now) (image_of accepted.now.system accepted.now.module) p) }
 {
     let image = compile(alloc, &accepted.system, &accepted.module)?;
-    let spelling = spelled(alloc, &image)?;
-    let machine = load(alloc, &image)?;
-    let image_name = named(alloc, go.name, ".IMG")?;
-    let report = Text::new(alloc, REPORT_ROOM)?;
-    let report_name = named(alloc, go.name, ".RPT")?;
+    let (spelling, machine) = loaded(alloc, &image)?;
+    let ((image_name, report), report_name) = written(alloc, go.name)?;
     Ok(Prepared {
         image,
         machine,
@@ -47,6 +47,34 @@ pub fn prepare(alloc: Global, go: &GoWords, accepted: &Accepted) -> Result<Prepa
         report,
         report_name,
     })
+}
+
+// The spelling of an image, and the machine at its start.
+fn loaded(alloc: Global, image: &Image) -> Result<(Text, Machine), Memory>
+    requires code { length image.now.code < 2 ^ 16 }
+    requires bytes { length image.now.bytes < 2 ^ 16 }
+    requires ranges { InRanges image.now }
+    ensures spelled { IfOk result (λ x. x.0.items ≡ spelling image.now) }
+    ensures start { IfOk result (λ x. state_of_machine image.now x.1 [] [] ≡ start image.now) }
+    ensures instructions { IfOk result (λ x. x.1.instructions ≡ 0) }
+    ensures steps { IfOk result (λ x. x.1.steps ≡ 0) }
+{
+    let spelling = spelled(alloc, image)?;
+    let machine = load(alloc, image)?;
+    Ok((spelling, machine))
+}
+
+// The name of the image's file, the report, still empty, with its room, and the name of its file.
+fn written(alloc: Global, name: &str) -> Result<((String, Text), String), Memory>
+    ensures image { IfOk result (λ x. string_bytes x.0.0 ≡ name.now ++ codes ".IMG") }
+    ensures empty { IfOk result (λ x. x.0.1.items ≡ []) }
+    ensures room { IfOk result (λ x. REPORT_ROOM ≤ x.0.1.spare) }
+    ensures report { IfOk result (λ x. string_bytes x.1 ≡ name.now ++ codes ".RPT") }
+{
+    let image_name = named(alloc, name, ".IMG")?;
+    let report = Text::new(alloc, REPORT_ROOM)?;
+    let report_name = named(alloc, name, ".RPT")?;
+    Ok(((image_name, report), report_name))
 }
 
 /// The name of a file that is written: the name of the command's last word, and an ending.
