@@ -256,8 +256,15 @@ pub fn assigned(
     match spot {
         Spot::Local(i) => Ok(StmtNode::Keep(i, value)),
         Spot::Path(path) => put(alloc, &mode_at(found), path, value),
-        Spot::Row(_row) => Ok(StmtNode::Run(value)),
+        Spot::Row(row) => Ok(run(row, value)),
     }
+}
+
+// A value that runs; the array behind a REF ARRAY is no place for it.
+fn run(_row: TermNode, value: Rc<TermNode>) -> StmtNode
+    ensures { n.stmt result ≡ tree.Run (n.term value.value) }
+{
+    StmtNode::Run(value)
 }
 
 // What is put at a shared place, by its mode.

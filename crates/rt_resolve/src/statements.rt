@@ -13,7 +13,7 @@ use crate::join::{
     BranchNode, Joins, Line, joined_branches, joined_labels, joined_lines, joined_statements,
     joined_tests,
 };
-use crate::share::shared;
+use crate::share::{push_made, shared};
 use crate::spot::assigned;
 use crate::values::{shared_term, spot};
 use rt_tree::{
@@ -48,7 +48,7 @@ fn conds(alloc: Global, scope: &Scope<'_>, tests: &[Test]) -> Result<List<CondNo
 {
     let mut made = List::new(alloc, tests.len())?;
     for test in tests {
-        made.push(cond(alloc, scope, test)?)?;
+        push_made(&mut made, cond(alloc, scope, test))?;
     }
     Ok(made)
 }
@@ -90,7 +90,7 @@ fn all_lines(alloc: Global, scope: &Scope<'_>, lines: &[Labelled]) -> Result<Lis
 {
     let mut made = List::new(alloc, lines.len())?;
     for line in lines {
-        made.push(one_line(alloc, scope, line)?)?;
+        push_made(&mut made, one_line(alloc, scope, line))?;
     }
     Ok(made)
 }
@@ -117,7 +117,7 @@ fn branches(
 {
     let mut made = List::new(alloc, branches.len())?;
     for branch in branches {
-        made.push(one_branch(alloc, scope, branch)?)?;
+        push_made(&mut made, one_branch(alloc, scope, branch))?;
     }
     Ok(made)
 }
@@ -324,7 +324,7 @@ fn starts(alloc: Global, scope: &Scope<'_>, locals: &[LocalStart]) -> Result<Lis
 {
     let mut made = List::new(alloc, locals.len())?;
     for local in locals {
-        made.push(start(alloc, scope, local)?)?;
+        push_made(&mut made, start(alloc, scope, local))?;
     }
     Ok(made)
 }

@@ -10,6 +10,7 @@ ghost use Rattle.rt_resolve.specs.Systems as systems;
 
 use crate::bindings::bounds;
 use crate::code::{Code, ModuleCode};
+use crate::share::push_made;
 use crate::starting::{Home, bricks_contents, texts_contents};
 use crate::statements::body;
 use rt_tree::{Brick, BrickSort, ProcBody, Scope, TypedModule};
@@ -86,7 +87,7 @@ fn codes(alloc: Global, scope: &Scope<'_>, bricks: &[Brick]) -> Result<List<Opti
 {
     let mut made = List::new(alloc, bricks.len())?;
     for brick in bricks {
-        made.push(brick_code(alloc, scope, brick)?)?;
+        push_made(&mut made, brick_code(alloc, scope, brick))?;
     }
     Ok(made)
 }
