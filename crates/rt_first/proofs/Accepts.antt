@@ -1,5 +1,5 @@
 -- Why a file isn't accepted, in its turn.
-use Rattle.std.proofs.Common.{◌≡◌, ℕ, zero, suc, ◌≤◌, List, [], ◌∷◌, Option, subst, sym, inl, inr, arith}
+use Rattle.std.proofs.Common.{◌≡◌, ℕ, zero, suc, ◌≤◌, List, [], ◌∷◌, length, Option, refl, subst, sym, inl, inr, arith}
 use Rattle.std.specs.Prelude.{◌⊎◌, Result, Ok, Err, IfErr}
 use Rattle.std.specs.List.{AllByRecursion}
 use Rattle.std.specs.Str.{IsAscii}
@@ -21,6 +21,11 @@ pub ascii : (bs : List ℕ) → AllByRecursion IsPrintable bs → IsAscii bs
 ascii [] h i = omega arith
 ascii (b ∷ bs) h zero = omega (arith, h.0.1)
 ascii (b ∷ bs) h (suc i) = ascii bs h.1 i
+
+-- a text of no bytes
+pub empty : (bs : List ℕ) → length bs ≡ 0 → bs ≡ []
+empty [] h = refl
+empty (b ∷ bs) h = absurd (omega (arith, h))
 
 -- a refusal of this file
 refusal_is : (files : Option Files) (g : Go) (r s : Refusal) (name file : List ℕ) → s ≡ r → file ≡ name → Refuses files g r name → Refuses files g s file

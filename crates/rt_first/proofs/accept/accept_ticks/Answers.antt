@@ -1,9 +1,15 @@
-use Rattle.std.proofs.Common.{rules}
+use Rattle.std.proofs.Common.{rules, arith, ◌≡◌, length, subst}
+use Rattle.std.proofs.lemmas.Grind.{common_steps}
 use Rattle.rt_first.specs.GoWords.{go_of}
-use Rattle.rt_first.specs.Outcome.{ticks_bad}
+use Rattle.rt_first.specs.Outcome.{IsFile, ticks_bad}
 use Rattle.rt_first.specs.declared.refusal.Refusal.TheVariants.{BadLine}
-use Rattle.rt_first.proofs.Accepts.{ticks_unread, refuses}
+use Rattle.rt_first.proofs.Accepts.{ticks_unread, refuses, empty}
 use Rattle.rt_first.proofs.accept.accept_ticks.Goals as goal
+
+pub returns-in-Ok-clause-ok : goal.returns-in-Ok-clause-ok
+returns-in-Ok-clause-ok g c =
+    let none : length c.in-Ok.bytes.items ≡ 0 = grind (arith, common_steps) in
+    subst (IsFile (g.S.Store.files c.args.store.now) c.args.go.now.ticks.now) (empty c.in-Ok.bytes.items none) c.in-Ok.ensures.ok
 
 pub returns-in-Ok-2-clause-err : goal.returns-in-Ok-2-clause-err
 returns-in-Ok-2-clause-err g c =
