@@ -42,11 +42,16 @@ fn branched(bus: &mut FlatBus, nzvc: u16) -> u8 {
 }
 
 fn told(after: &Regs, taken: &Regs, passed: &Regs) -> u8 {
-    if after == taken {
+    if same(after, taken) {
         b'1'
-    } else if after == passed {
+    } else if same(after, passed) {
         b'0'
     } else {
         b'?'
     }
+}
+
+/// Whether all registers and flags are the same.
+fn same(one: &Regs, other: &Regs) -> bool {
+    one.r == other.r && one.n == other.n && one.z == other.z && one.v == other.v && one.c == other.c
 }
