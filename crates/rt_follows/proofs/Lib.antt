@@ -1,4 +1,5 @@
 pub mod Step
+pub mod Once
 pub mod Induction
 pub mod Starting
 pub mod Calls

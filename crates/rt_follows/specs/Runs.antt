@@ -79,11 +79,18 @@ abbrev pub ErrorRuns : Whole → Home → ℕ → ℕ → Type 0
 ErrorRuns w h k n =
     (u : Machine) (q : ℕ) (a : Act) (cs : List Act) (own : List Datum) → u.pc ≡ w.support (error_routine n) → q + 7 ≤ w.bound → next_of (meaning w) a ≡ Errors n → Tracks w h k q u a cs own
 
--- A routine that makes no visible step: from its entry, with the return's address on the stack, it comes back after at most `most`
--- unmarked instructions, with what it gives, as many words on the stack, and the source's task as it was.
-abbrev pub Serves : Whole → Home → ℕ → ℕ → ℕ → (ℕ → List ℕ → Machine → Machine → Type 0) → Type 0
-Serves w h k n most gives =
-    (u : Machine) (q back : ℕ) (stack : List ℕ) (a : Act) (cs : List Act) (own : List Datum) → u.pc ≡ w.support n → u.stack ≡ back ∷ stack → q + most ≤ w.bound
+-- what a routine takes under the return's address: anything, or a dividend
+abbrev pub AnyStack : List ℕ → Type 0
+AnyStack stack = Unit {0}
+
+abbrev pub HasDividend : List ℕ → Type 0
+HasDividend stack = (x : ℕ) × (rest : List ℕ) × (stack ≡ x ∷ rest)
+
+-- A routine that makes no visible step: from its entry, with the return's address on the stack and what it takes under it, it comes back
+-- after at most `most` unmarked instructions, with what it gives, as many words on the stack, and the source's task as it was.
+abbrev pub Serves : Whole → Home → ℕ → ℕ → ℕ → (List ℕ → Type 0) → (ℕ → List ℕ → Machine → Machine → Type 0) → Type 0
+Serves w h k n most takes gives =
+    (u : Machine) (q back : ℕ) (stack : List ℕ) (a : Act) (cs : List Act) (own : List Datum) → u.pc ≡ w.support n → u.stack ≡ back ∷ stack → takes stack → q + most ≤ w.bound
     → ((j r : ℕ) (v : Machine) → j < k → r ≤ q + most → v.pc ≡ back → length v.stack ≡ length stack → v.r5 ≡ u.r5 → gives back stack u v → Tracks w h j r v a cs own) → Tracks w h k q u a cs own
 
 -- the result in the place of the dividend and C clear, or the number of an error there and C set
@@ -108,9 +115,9 @@ Counts back stack u v = CountIs (turns u.r2 u.r3 u.r1) v × (v.stack ≡ stack)
 
 pub record RoutinesRun (w : Whole) (h : Home) (k : ℕ) : Type 0 where
   pub error : ErrorRuns w h k 1
-  pub quotient : Serves w h k quotient_routine 12 (Divides Divide)
-  pub remainder : Serves w h k remainder_routine 12 (Divides Mod)
-  pub turns_of : Serves w h k turns_routine 20 Counts
+  pub quotient : Serves w h k quotient_routine 11 HasDividend (Divides Divide)
+  pub remainder : Serves w h k remainder_routine 11 HasDividend (Divides Mod)
+  pub turns_of : Serves w h k turns_routine 17 AnyStack Counts
 
 -- for fewer than k instructions, every procedure that is reached and every routine
 pub record Before (w : Whole) (h : Home) (k : ℕ) : Type 0 where

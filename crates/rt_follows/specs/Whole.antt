@@ -17,6 +17,7 @@ use Rattle.rt_tree.specs.Stored.{System, StandsAt, module_of}
 use Rattle.rt_work_state.specs.Stores.{Store, read, deeper}
 use Rattle.rt_resolve.specs.World.{World}
 use Rattle.rt_resolve.specs.Systems.{world}
+use Rattle.rt_meaning_laws.specs.Levels.{IsTableOf}
 use Rattle.rt_meaning_laws.specs.Slots.{LeadsTo, IsByte, IsOf}
 use Rattle.pdp_core.specs.World.{word_at, byte_at}
 use Rattle.rt_icode.specs.declared.ins.Fixed.{Fixed}
@@ -118,9 +119,9 @@ pub record Lays (w : Whole) : Type 0 where
   -- where fields and elements are, by the modes of any module that leads to them
   pub fixed : (m : ℕ) (p : ModuleParts) (f : Fixed) (v : Mode) → module_of w.ps m ≡ Some p → IsFixed w.ps p ((meaning w).env m) f v
       → w.address (place_of ((meaning w).env m) f) ≡ w.base (Brick (((meaning w).env m).leads f.brick).module (((meaning w).env m).leads f.brick).brick) + f.offset
-  pub fields : (t : ModeTable) (v : Mode) (l : Location) (r k o : ℕ) (d : RecordDef) → LeadsTo w.ps t v l → out-Mode v ≡ Mode-F.Record r → slice_get t.records r ≡ Some d → BeginsAt t d.fields k o → w.address (deeper l k) ≡ w.address l + o
-  pub elements : (t : ModeTable) (v e : Mode) (l : Location) (n i s : ℕ) → LeadsTo w.ps t v l → out-Mode v ≡ Mode-F.Array n e → IsSize t e s → i < n → w.address (deeper l i) ≡ w.address l + (2 + s * i)
-  pub rows : (t : ModeTable) (v e : Mode) (l : Location) (n i s : ℕ) → IsOf w.ps t v (Row l n) → out-Mode v ≡ Mode-F.RefArray e → IsSize t e s → i < n → w.address (deeper l i) ≡ w.address l + (2 + s * i)
+  pub fields : (t : ModeTable) (v : Mode) (l : Location) (r k o : ℕ) (d : RecordDef) → IsTableOf w.ps t → LeadsTo w.ps t v l → out-Mode v ≡ Mode-F.Record r → slice_get t.records r ≡ Some d → BeginsAt t d.fields k o → w.address (deeper l k) ≡ w.address l + o
+  pub elements : (t : ModeTable) (v e : Mode) (l : Location) (n i s : ℕ) → IsTableOf w.ps t → LeadsTo w.ps t v l → out-Mode v ≡ Mode-F.Array n e → IsSize t e s → i < n → w.address (deeper l i) ≡ w.address l + (2 + s * i)
+  pub rows : (t : ModeTable) (v e : Mode) (l : Location) (n i s : ℕ) → IsTableOf w.ps t → IsOf w.ps t v (Row l n) → out-Mode v ≡ Mode-F.RefArray e → IsSize t e s → i < n → w.address (deeper l i) ≡ w.address l + (2 + s * i)
   pub texts : (m k : ℕ) → w.address (Shared (Text m k) []) ≡ w.base (Text m k)
   -- code
   pub entries : (f : Proc) → w.entry f < w.code_end

@@ -104,8 +104,8 @@ abbrev pub fetch_unmarked : Width → ℕ
 fetch_unmarked width.Byte = 2
 fetch_unmarked width.Word = 0
 
--- those of the support code's routines are counted: 7 of a division that can't fail, 11 of one that may, 17 of the count of turns,
--- 2 of the end of a procedure
+-- those of the support code's routines are counted: 11 of a division, 7 of an error in a subscript, 17 of the count of turns, 2 of the end
+-- of a procedure
 abbrev pub unmarked_of : Ins → ℕ
 unmarked_of (ins.Enter b p l r) = l + (if r then 6 else 2)
 unmarked_of (ins.Load z f) = load_unmarked z
@@ -116,12 +116,12 @@ unmarked_of (ins.SaveOwn k) = 0
 unmarked_of (ins.Store z) = 0
 unmarked_of (ins.Go to) = 0
 unmarked_of ins.Restore = 0
-unmarked_of (ins.ElementAt f n s) = 8
-unmarked_of (ins.Element n s) = 8
-unmarked_of (ins.ElementRow s) = 8
+unmarked_of (ins.ElementAt f n s) = 12
+unmarked_of (ins.Element n s) = 12
+unmarked_of (ins.ElementRow s) = 12
 unmarked_of (ins.Alter a) = alter_unmarked a
 unmarked_of (ins.Merge m) = merge_unmarked m
-unmarked_of (ins.Divide d) = 9
+unmarked_of (ins.Divide d) = 13
 unmarked_of (ins.DivideOr d) = 14
 unmarked_of (ins.Test r w n) = 3
 unmarked_of (ins.Case to) = 3

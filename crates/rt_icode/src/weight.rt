@@ -144,7 +144,7 @@ fn merged_unmarked(merge: Merge) -> u32
 }
 
 /// How many instructions of the machine without a visible step an instruction makes at the most, those of the support code's
-/// routines among them; of a routine from which nothing comes back, none are counted.
+/// routines among them.
 pub fn unmarked(i: &Ins) -> u32
     ensures value { result ≡ unmarked_of i.now }
     ensures most { result ≤ 65541 }
@@ -169,13 +169,13 @@ pub fn unmarked(i: &Ins) -> u32
         | Ins::Store(_)
         | Ins::Go { .. }
         | Ins::Restore => 0,
-        Ins::ElementAt { .. } | Ins::Element { .. } | Ins::ElementRow { .. } => 8,
+        Ins::ElementAt { .. } | Ins::Element { .. } | Ins::ElementRow { .. } => 12,
         Ins::Alter(alter) => match alter {
             Alter::Absolute => 3,
             _ => 1,
         },
         Ins::Merge(merge) => merged_unmarked(*merge),
-        Ins::Divide(_) => 9,
+        Ins::Divide(_) => 13,
         Ins::DivideOr(_) => 14,
         Ins::Test { .. } | Ins::Case { .. } | Ins::TurnTo { .. } | Ins::Leave => 3,
         Ins::TurnFor { .. } | Ins::GiveUp => 4,

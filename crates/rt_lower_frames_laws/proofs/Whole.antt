@@ -184,7 +184,7 @@ sound_in p k n (sort.Proc m (Some b)) q h t = subst SeqSound (some_same (tree_of
 sound_in p k n (sort.Data fs ss) q h t = absurd cc
 sound_in p k n (sort.Stack words) q h t = absurd cc
 
-sound_tree : (p : ModuleParts) (b : ℕ) (q : Seq) → every_node_fits p ≡ true → plain_tree p b ≡ Some q → SeqSound q
+pub sound_tree : (p : ModuleParts) (b : ℕ) (q : Seq) → every_node_fits p ≡ true → plain_tree p b ≡ Some q → SeqSound q
 sound_tree p b q h t = by_brick (slice_get p.bricks b) refl t
   where
     by_brick : (o : Option Brick) → slice_get p.bricks b ≡ o → with o (λ d. tree_in p d.sort) ≡ Some q → SeqSound q

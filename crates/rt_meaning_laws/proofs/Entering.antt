@@ -62,14 +62,14 @@ zeros zero i = refl
 zeros (suc k) zero = refl
 zeros (suc k) (suc i) = zeros k i
 
-first_counts : (ws : List Mode) (ls : List Local) → FirstAre ws ls → length ws ≤ length ls
+pub first_counts : (ws : List Mode) (ls : List Local) → FirstAre ws ls → length ws ≤ length ls
 first_counts [] ls h = omega arith
 first_counts (w ∷ ws) [] h = absurd h
 first_counts (w ∷ ws) (local.Variable v ∷ ls) h = let r = first_counts ws ls h.1 in omega arith
 first_counts (w ∷ ws) (local.Loop ∷ ls) h = absurd h
 
 module _ (ps : System) (t : ModeTable) where
-  args_count : (ws : List Mode) (ds : List Datum) → AreOf ps t ws ds → length ds ≡ length ws
+  pub args_count : (ws : List Mode) (ds : List Datum) → AreOf ps t ws ds → length ds ≡ length ws
   args_count [] [] h = refl
   args_count [] (d ∷ ds) h = absurd h
   args_count (w ∷ ws) [] h = absurd h
@@ -89,7 +89,7 @@ module _ (ps : System) (t : ModeTable) where
   none_less zero c h = h
   none_less (suc i) c h = let n : nat_lt (suc i) 0 ≡ false = grind (arith, nat_tests) in sym (ap (λ (z : Bool). z || c) n) ∙ h
 
-  started_local : (ws : List Mode) (ls : List Local) (ds : List Datum) (k i : ℕ) (m : Mode) → FirstAre ws ls → AreOf ps t ws ds → option_map mode_of_local (slice_get ls i) ≡ Some m → nat_lt i (length ws) || is_plain (Some m) ≡ true
+  pub started_local : (ws : List Mode) (ls : List Local) (ds : List Datum) (k i : ℕ) (m : Mode) → FirstAre ws ls → AreOf ps t ws ds → option_map mode_of_local (slice_get ls i) ≡ Some m → nat_lt i (length ws) || is_plain (Some m) ≡ true
       → IsOf ps t m (datum_in (slice_get (ds ++ replicate k (Word 0)) i))
   started_local [] ls [] k i m f a e h = plain_zero m k i (none_less i (is_plain (Some m)) h)
   started_local [] ls (d ∷ ds) k i m f a e h = absurd a
@@ -99,7 +99,7 @@ module _ (ps : System) (t : ModeTable) where
   started_local (w ∷ ws) (local.Variable v ∷ ls) (d ∷ ds) k zero m f a e h = let same : w ≡ m = f.0 ∙ cc in subst (λ (x : Mode). IsOf ps t x d) same a.0
   started_local (w ∷ ws) (local.Variable v ∷ ls) (d ∷ ds) k (suc i) m f a e h = started_local ws ls ds k i m f.1 a.1 e (less_more i (length ws) (is_plain (Some m)) h)
 
-  loop_local : (ws : List Mode) (ls : List Local) (ds : List Datum) (k i : ℕ) → FirstAre ws ls → AreOf ps t ws ds → slice_get ls i ≡ Some local.Loop → datum_in (slice_get (ds ++ replicate k (Word 0)) i) ≡ Word 0
+  pub loop_local : (ws : List Mode) (ls : List Local) (ds : List Datum) (k i : ℕ) → FirstAre ws ls → AreOf ps t ws ds → slice_get ls i ≡ Some local.Loop → datum_in (slice_get (ds ++ replicate k (Word 0)) i) ≡ Word 0
   loop_local [] ls [] k i f a e = zeros k i
   loop_local [] ls (d ∷ ds) k i f a e = absurd a
   loop_local (w ∷ ws) [] ds k i f a e = absurd f

@@ -1,26 +1,26 @@
 mod Small
-mod Modes
-mod Operators
+pub mod Modes
+pub mod Operators
 mod Finding
-mod Errors
-mod Numbers
-mod Places
+pub mod Errors
+pub mod Numbers
+pub mod Places
 mod Stacks
-mod Terms
+pub mod Terms
 pub mod Locals
-mod Conditions
-mod Statements
+pub mod Conditions
+pub mod Statements
 mod Following
 mod Labels
-mod Stores
-mod Writing
-mod Passing
+pub mod Stores
+pub mod Writing
+pub mod Passing
 mod Steps
 pub mod Running
-mod Nodes
-mod Soundness
-mod Grounding
-mod Entering
+pub mod Nodes
+pub mod Soundness
+pub mod Grounding
+pub mod Entering
 mod Starts
 mod Beginning
 mod Beginnings

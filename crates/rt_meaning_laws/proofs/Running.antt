@@ -30,11 +30,11 @@ either_comes false a b v h k = k
 
 rules_come : (r : Roster) (i : ℕ) (v : Svc) → i < 65536 → MayCome (Rules v) (rules.serve r i v).1
 rules_come r i (svc.Delay n) h = either_comes (rules.is_delay n) _ _ (svc.Delay n) tt tt
-rules_come r i (svc.Wait n) h = either_comes (rules.is_number n) (rules.wait r i n) _ (svc.Wait n) (either_comes (flag_of r n) _ _ (svc.Wait n) tt tt) (omega arith)
-rules_come r i (svc.Signal n) h = either_comes (rules.is_number n) (rules.signal r n) _ (svc.Signal n) tt (omega arith)
+rules_come r i (svc.Wait n) h = either_comes (rules.is_number n) (rules.wait r i n) _ (svc.Wait n) (either_comes (flag_of r n) _ _ (svc.Wait n) tt tt) (omega arith, omega arith)
+rules_come r i (svc.Signal n) h = either_comes (rules.is_number n) (rules.signal r n) _ (svc.Signal n) tt (omega arith, omega arith)
 rules_come r i (svc.Secure n) h =
-    either_comes (rules.is_number n) (rules.secure r i n) _ (svc.Secure n) (either_comes (owner_of r n == i) (r, Error 4) _ (svc.Secure n) (omega arith) (either_comes (owner_of r n == 0) _ _ (svc.Secure n) tt tt)) (omega arith)
-rules_come r i (svc.Release n) h = either_comes (rules.is_number n) (rules.release r i n) _ (svc.Release n) (either_comes (owner_of r n == i) _ _ (svc.Release n) tt (omega arith)) (omega arith)
+    either_comes (rules.is_number n) (rules.secure r i n) _ (svc.Secure n) (either_comes (owner_of r n == i) (r, Error 4) _ (svc.Secure n) (omega arith, omega arith) (either_comes (owner_of r n == 0) _ _ (svc.Secure n) tt tt)) (omega arith, omega arith)
+rules_come r i (svc.Release n) h = either_comes (rules.is_number n) (rules.release r i n) _ (svc.Release n) (either_comes (owner_of r n == i) _ _ (svc.Release n) tt (omega arith, omega arith)) (omega arith, omega arith)
 rules_come r i svc.Clock h = omega arith
 rules_come r i svc.TaskNo h = h
 rules_come r i (svc.Gel n) h = tt

@@ -61,7 +61,7 @@ module _ (ps : System) (x : Site) (e : Env) (so : Sound ps) (g : Grounds ps x e)
   pub give_goes : (b : Started) (ss : List Slot) (m : Mode) → x.answer ≡ Some m → Going_on b (AValue m ∷ ss) (λ us ks. give_up_then us)
   give_goes b ss m a us ks f l = value_found ps x e m ss us _ f (λ d ws h f2. subst (λ (o : Option Mode). AnswerFits ps x o (Some d)) (sym a) h)
 
-  nth_fits : (b : Started) (ls : List ℕ) (i l : ℕ) → LabelsFit x b ls → slice_get ls i ≡ Some l → LabelFits x b l
+  pub nth_fits : (b : Started) (ls : List ℕ) (i l : ℕ) → LabelsFit x b ls → slice_get ls i ≡ Some l → LabelFits x b l
   nth_fits b [] i l h q = absurd cc
   nth_fits b (k ∷ ls) zero l h q = let same : k ≡ l = cc in subst (λ (z : ℕ). LabelFits x b z) same h.0
   nth_fits b (k ∷ ls) (suc i) l h q = nth_fits b ls i l h.1 q
@@ -79,7 +79,7 @@ module _ (ps : System) (x : Site) (e : Env) (so : Sound ps) (g : Grounds ps x e)
 
   -- ---- loops
 
-  set_loop : (b : Started) (i n : ℕ) (ks : List Datum) → IsLoop x i → n < 65536 → LocalsFit ps x b ks → LocalsFit ps x b (slice_set ks i (Word n))
+  pub set_loop : (b : Started) (i n : ℕ) (ks : List Datum) → IsLoop x i → n < 65536 → LocalsFit ps x b ks → LocalsFit ps x b (slice_set ks i (Word n))
   set_loop b i n ks h r l = weaker ps x (and_local b i) b (slice_set ks i (Word n)) (set_local ps x b i mode.Int (Word n) ks l (loop_mode x i mode.Int h out_int) (number_is ps (table x) mode.Int n (int_is_number mode.Int out_int) r)) (within_more b i)
 
   counted_goes : (b : Started) (ss : List Slot) (i n : ℕ) (out into : Going) (us ks : List Datum) → IsLoop x (i + 2) → n ≤ 65536 → Going_on b ss out → Going_on b ss into → FillAll ps (table x) ss us → LocalsFit ps x b ks
@@ -88,7 +88,7 @@ module _ (ps : System) (x : Site) (e : Env) (so : Sound ps) (g : Grounds ps x e)
   counted_goes b ss i (suc n) out into us ks h r ho hi f l = hi us (slice_set ks (i + 2) (Word n)) f (set_loop b (i + 2) n ks h (omega arith) l)
 
   -- the word that a loop's own local holds
-  held : (b : Started) (i : ℕ) (ks : List Datum) → IsLoop x i → LocalsFit ps x b ks → (n : ℕ) × (word_at ks i ≡ Some n) × (n < 65536)
+  pub held : (b : Started) (i : ℕ) (ks : List Datum) → IsLoop x i → LocalsFit ps x b ks → (n : ℕ) × (word_at ks i ≡ Some n) × (n < 65536)
   held b i ks h l = let k = l.loops i h in (k.0, ap a_word k.1, k.2)
 
   pub count_for_goes : (b : Started) (ss : List Slot) (m : Mode) (i : ℕ) (out into : Going) → IsInt m → AreLoops x i → Going_on b ss out → Going_on b ss into → Going_on b (AValue m ∷ ss) (count_for_then i out into)
@@ -113,7 +113,7 @@ module _ (ps : System) (x : Site) (e : Env) (so : Sound ps) (g : Grounds ps x e)
       turn zero q = go_on us ks f l
       turn (suc n) q = awaits ps x e so g None b again ss us (slice_set next (i + 2) (Word n)) r f (set_loop b (i + 2) n next h.2 (omega arith) ln)
 
-  stepped_fits : (b : Started) (i : ℕ) (o r : Option ℕ) (ks : List Datum) → IsLoop x i → LocalsFit ps x b ks → LocalsFit ps x b (stepped i o r ks)
+  pub stepped_fits : (b : Started) (i : ℕ) (o r : Option ℕ) (ks : List Datum) → IsLoop x i → LocalsFit ps x b ks → LocalsFit ps x b (stepped i o r ks)
   stepped_fits b i None r ks h l = l
   stepped_fits b i (Some n) None ks h l = l
   stepped_fits b i (Some n) (Some k) ks h l = set_loop b i (wrap_add n k) ks h (omega arith) l
@@ -126,7 +126,7 @@ module _ (ps : System) (x : Site) (e : Env) (so : Sound ps) (g : Grounds ps x e)
 
   -- ---- whole statements
 
-  cleared : (i : ℕ) (m : Mode) (l : Mode-F Mode) → out-Mode m ≡ l → starts_at_zero l ≡ true → IsOf ps (table x) m (Word 0)
+  pub cleared : (i : ℕ) (m : Mode) (l : Mode-F Mode) → out-Mode m ≡ l → starts_at_zero l ≡ true → IsOf ps (table x) m (Word 0)
   cleared i m Mode-F.Byte o h = byte_is ps (table x) m 0 o (omega arith)
   cleared i m Mode-F.Int o h = number_is ps (table x) m 0 (int_is_number m o) (omega arith)
   cleared i m Mode-F.Frac o h = number_is ps (table x) m 0 (ap of_number o) (omega arith)

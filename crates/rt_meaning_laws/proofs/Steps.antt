@@ -131,9 +131,12 @@ module _ (holds_inside : HoldsInside) (holds_written : HoldsWritten) (ps : Syste
       by_request (Rules svc.End) _ h m = absurd m
       by_request (Puts n) (Go k) h m = goes h.0 h.1
       by_request (Puts n) _ h m = absurd m
+      by_request (Rules (svc.Delay k)) (Go n) h m = goes h.0 h.1
+      by_request (Rules (svc.Delay k)) Waits h m = goes h.0 h.1
+      by_request (Rules (svc.Delay k)) _ h m = absurd m
       by_request (Rules s) (Go n) h m = goes h.0 h.1
       by_request (Rules s) Waits h m = goes h.0 h.1
-      by_request (Rules s) (Error n) h m = fails n m h.0 h.1
+      by_request (Rules s) (Error n) h m = fails n m.1 h.0 h.1
       by_request (Rules s) Ends h m = absurd m
 
   entered_proc : (c : Option Code) (f : Proc) (args : List Datum) (kept : Datum) → (entered c f args kept).proc ≡ f

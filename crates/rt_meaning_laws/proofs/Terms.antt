@@ -38,7 +38,7 @@ use Rattle.rt_meaning_laws.proofs.Stacks.{popped}
 use Rattle.rt_meaning_laws.proofs.Errors.{int_taken_stands, erp_full}
 
 -- the number of terms is that of their modes
-count_terms : (x : Site) (b : Started) (xs : Terms) (ws : List Mode) → TermsFit x b xs ws → how_many xs ≡ length ws
+pub count_terms : (x : Site) (b : Started) (xs : Terms) (ws : List Mode) → TermsFit x b xs ws → how_many xs ≡ length ws
 count_terms x b NoTerm ws h = rw h refl
 count_terms x b (MoreTerms v xs) ws h = ap suc (count_terms x b xs h.1 h.4) ∙ sym (ap (λ (l : List Mode). length l) h.2)
 
@@ -97,7 +97,7 @@ module _ (ps : System) (x : Site) (e : Env) (so : Sound ps) (g : Grounds ps x e)
   length_goes b ss go k w m im o go_on us ks f l =
       row_found ps x e w k ss us _ o f (λ p n ws st h f2. go_on (Word n ∷ ws) ks (number_is ps t m n (int_is_number m im) (so.elements p h.table h.is h.element n h.at h.array).1, f2) l)
 
-  given_one : (o : Op1) (m : Mode) (n : ℕ) → GivesOne o m → n < 65536 → IsOf ps t m (Word (one_of o n))
+  pub given_one : (o : Op1) (m : Mode) (n : ℕ) → GivesOne o m → n < 65536 → IsOf ps t m (Word (one_of o n))
   given_one one.Byte m n h r = byte_is ps t m (n % 256) h (byte_below n)
   given_one one.Plus m n h r = number_is ps t m (one_of one.Plus n) h (one_below one.Plus n r)
   given_one one.Minus m n h r = number_is ps t m (one_of one.Minus n) h (one_below one.Minus n r)
@@ -149,7 +149,7 @@ module _ (ps : System) (x : Site) (e : Env) (so : Sound ps) (g : Grounds ps x e)
 
   -- ---- whole terms
 
-  numeral : (n : ℕ) (m : Mode) (l : Mode-F Mode) → out-Mode m ≡ l → number_fits n l → IsOf ps t m (Word n)
+  pub numeral : (n : ℕ) (m : Mode) (l : Mode-F Mode) → out-Mode m ≡ l → number_fits n l → IsOf ps t m (Word n)
   numeral n m Mode-F.Byte o h = byte_is ps t m n o h
   numeral n m Mode-F.Int o h = number_is ps t m n (int_is_number m o) h
   numeral n m _ o h = absurd h

@@ -19,7 +19,7 @@ use Rattle.rt_tree.specs.Taken.{taken}
 use Rattle.rt_tree.specs.FullModes.{MayStand}
 use Rattle.rt_meaning_laws.specs.Slots.{IsInt, IsByte, IsOwn}
 use Rattle.rt_meaning_laws.specs.Slots as slots
-use Rattle.rt_meaning_laws.specs.Trees.{Started, Site, table, mode_of_local, local_mode, number_fits, OwnFits, TermFits, PathFits, TermsFit, CallFits}
+use Rattle.rt_meaning_laws.specs.Trees.{Started, Site, table, mode_of_local, local_mode, number_fits, is_array, OwnFits, TermFits, PathFits, TermsFit, CallFits}
 use Rattle.rt_meaning_laws.specs.Named.{TermNamed, PathNamed, TermsNamed}
 use Rattle.rt_meaning_laws.proofs.Modes.{out_int, out_ref, out_row}
 use Rattle.rt_meaning_laws.proofs.Operators.{int_out, byte_out}
@@ -240,7 +240,7 @@ module _ (x : Site) (s : Started) where
   reference_by_layer : (v m : Mode) (q : Path) (l : Mode-F Mode) → out-Mode v ≡ l → (ReadyPath q → PathFits x s q v) → reference_by l v ≡ Some m → Ready (reference_path l q) → TermFits x s (reference_path l q) m
   reference_by_layer v m q (Mode-F.Array n u) o h e r = let is : mode.RefArray u ≡ m = cc in (u, v, ap out-Mode (sym is) ∙ out_row u, o, h r)
   reference_by_layer v m q Mode-F.Label o h e r = absurd cc
-  reference_by_layer v m q _ o h e r = let is : mode.Ref v ≡ m = cc in (v, ap out-Mode (sym is) ∙ out_ref v, h r)
+  reference_by_layer v m q _ o h e r = let is : mode.Ref v ≡ m = cc in (v, ap out-Mode (sym is) ∙ out_ref v, h r, ap is_array o)
 
   pub reference_good : (o : Option Found) (t : Spot) (m : Mode) → Goods o t → with o reference_mode ≡ Some m → Ready (reference_tree (PlacedBy o t)) → TermFits x s (reference_tree (PlacedBy o t)) m
   reference_good (Some (Shared v)) (OnPath q) m h e r = reference_by_layer v m q (out-Mode v) refl (h (Shared v) refl) e r

@@ -83,6 +83,11 @@ IsNumber m = of_number (out-Mode m) ≡ true
 abbrev pub IsWord : Mode → Type 0
 IsWord m = of_word (out-Mode m) ≡ true
 
+-- the reference of an array is a row
+abbrev pub is_array : Mode-F Mode → Bool
+is_array (Mode-F.Array n m) = true
+is_array _ = false
+
 -- `:/` and MOD
 abbrev pub is_division : Op2 → Bool
 is_division two.Divide = true
@@ -105,7 +110,7 @@ module _ (x : Site) where
     TermFits s (Name b) m = (proc_mode (faces x.parts.bricks) b ≡ Some m) × Contains (taken x.parts) b
     TermFits s (Own i) m = (local_mode x i ≡ Some m) × (s i ≡ true)
     TermFits s (Get w q) m = (w ≡ m) × (is_value (out-Mode m) ≡ true) × (PathFits s q m ⊎ (OwnFits (table x) q m × MayStand (table x) m))
-    TermFits s (Ref q) m = (w : Mode) × (out-Mode m ≡ Mode-F.Ref w) × PathFits s q w
+    TermFits s (Ref q) m = (w : Mode) × (out-Mode m ≡ Mode-F.Ref w) × PathFits s q w × (is_array (out-Mode w) ≡ false)
     TermFits s (RefRow q n) m = (w a : Mode) × (out-Mode m ≡ Mode-F.RefArray w) × (out-Mode a ≡ Mode-F.Array n w) × PathFits s q a
     TermFits s (Count q n) m = (a : Mode) × IsInt m × (n < 65536) × PathFits s q a
     TermFits s (CountRow v) m = (k w : Mode) × IsInt m × (out-Mode k ≡ Mode-F.RefArray w) × TermFits s v k

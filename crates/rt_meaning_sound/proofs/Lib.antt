@@ -23,5 +23,5 @@ mod Made
 mod Bricks
 mod Strings
 mod Whole
-mod Few
+pub mod Few
 pub mod Systems

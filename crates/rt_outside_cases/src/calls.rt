@@ -10,7 +10,7 @@ use rt_words::{Bytes, Memory, Text};
 use std::alloc::Global;
 
 /// The room for what is written to the store.
-const STORE_ROOM: usize = 5000;
+const STORE_ROOM: usize = 20000;
 
 /// The room for what is put.
 const OUTPUT_ROOM: usize = 1000;

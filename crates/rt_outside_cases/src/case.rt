@@ -1,7 +1,6 @@
 //! One line of the table.
 
 use crate::calls::describe_top;
-use crate::first::{describe_module, describe_system};
 use crate::state::State;
 use crate::stores::{
     describe_bytes, describe_file, describe_held, describe_kept, describe_read, describe_store,
@@ -69,20 +68,6 @@ fn answer_store(
         "write" => describe_write(alloc, rest, &mut state.store, out),
         "kept" => describe_kept(rest, &state.store, out),
         "held" => describe_held(&state.store, out),
-        _ => answer_texts(alloc, kind, rest, state, out),
-    }
-}
-
-fn answer_texts(
-    alloc: Global,
-    kind: &str,
-    rest: &str,
-    state: &mut State,
-    out: &mut Text,
-) -> Result<(), Memory> {
-    match kind {
-        "system" => describe_system(alloc, rest, &mut state.system, out),
-        "module" => describe_module(alloc, rest, &state.system, out),
         _ => answer_streams(alloc, kind, rest, out),
     }
 }

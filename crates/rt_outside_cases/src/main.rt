@@ -1,5 +1,5 @@
-//! Cases of the outside, as lines of standard input: files, sources and sinks in memory that fail at named calls, the texts
-//! of the first form, and whole calls of the program.
+//! Cases of the outside, as lines of standard input: files, sources and sinks in memory that fail at named calls, and whole calls of
+//! the program.
 //!
 //! Each line is copied, and below a case stands its answer, whose lines begin with `= `. What follows `#` is no part of a
 //! case. `-` is no name, no word or no number. In a text `\n`, `\r` and `\t` are the control bytes, `\s` is a space, and
@@ -11,14 +11,12 @@
 //! - `source AB : 2 6 : 7`: a source of this text whose second and sixth call fail, and seven calls.
 //!   `sure AB : 7`: so of a source that never fails. `sink 2 : 1 3 : 65 66`: a sink with room for two bytes whose first and
 //!   third put fail, and two puts.
-//! - `system MODULE A\nTASK T R S 9`: a system text of the first form. `module TITLE T; ..`: a module text of that system.
 //! - `top 4 : 1 : go H.SYS H.TCK 100 OUT`: the program with these words over a store of the files, whose fourth call
 //!   fails, as the first put does. `top - : - : 2 : run I.IMG T.TCK 100 OUT.RPT`: so where the second read of the input fails.
 #![tactic(auto)]
 
 mod calls;
 mod case;
-mod first;
 mod shown;
 mod state;
 mod stores;

@@ -39,16 +39,25 @@ fn show_byte(byte: u8, out: &mut Text) -> Result<(), Memory> {
     }
 }
 
-/// Appends bytes as hexadecimal digits, or their number where they are many.
+/// Appends bytes as hexadecimal digits; where they are many their number, and a sum that tells them from others.
 pub fn show_bytes(bytes: &[u8], out: &mut Text) -> Result<(), Memory> {
     if bytes.len() > 200 {
-        return show_count("bytes ", bytes.len() as u64, out);
+        show_count("bytes ", bytes.len() as u64, out)?;
+        return show_count(", sum ", u64::from(sum_of(bytes)), out);
     }
     for byte in bytes {
         out.push(digit(*byte / 16))?;
         out.push(digit(*byte % 16))?;
     }
     Ok(())
+}
+
+fn sum_of(bytes: &[u8]) -> u32 {
+    let mut sum: u32 = 0;
+    for byte in bytes {
+        sum = sum.wrapping_mul(31).wrapping_add(u32::from(*byte));
+    }
+    sum
 }
 
 fn digit(value: u8) -> u8 {

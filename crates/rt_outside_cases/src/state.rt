@@ -7,12 +7,11 @@ use std::alloc::Global;
 /// Files by name, the first of a name first.
 pub type Files = List<(Name, Bytes)>;
 
-/// The files, the store that was made of them, and the system text.
+/// The files, and the store that was made of them.
 #[derive(Drop)]
 pub struct State {
     pub files: Files,
     pub store: Option<MemStore>,
-    pub system: Bytes,
 }
 
 impl State {
@@ -21,7 +20,6 @@ impl State {
         State {
             files: List::from_vec(Vec::new(alloc)),
             store: None,
-            system: List::from_vec(Vec::new(alloc)),
         }
     }
 }

@@ -1,8 +1,6 @@
 -- What follows from an answer.
 use Rattle.std.proofs.Common.{◌≡◌, inl, inr, ℕ, ◌≤◌, Bool, true, false, if◌then◌else◌, List, [], ◌∷◌, Option, Some, None, refl, sym, ap, subst, arith}
-use Rattle.std.specs.Prelude.{codes, option_map}
-use Rattle.rt_compile.specs.declared.fault.CompileFault.{CompileFault}
-use Rattle.rt_compile.specs.declared.fault.CompileFault.TheVariants as compile
+use Rattle.std.specs.Prelude.{codes}
 use Rattle.rt_outside.specs.Deeds.{Deed, Writes, Puts, Outside, IsLater, HasFailed, Performed}
 use Rattle.rt_outside.proofs.Changes.{later, two_later}
 use Rattle.rt_outside.proofs.Stretches.{stopped}
@@ -14,29 +12,26 @@ use Rattle.rt_rules.specs.declared.task.TaskRow.{TaskRow}
 use Rattle.rt_run.specs.declared.machine.End.{End}
 use Rattle.rt_run.specs.declared.machine.End.TheVariants.{Ended, Limit, Stalled, Fault, ReadFault, WriteFault}
 use Rattle.rt_words.specs.Causes.{Rose}
-use Rattle.rt_top.specs.Calls.{Call, before, after, NothingDone, Does, DoesAll, Says, Answers, all_done, one_failed}
+use Rattle.rt_accept.specs.Calls.{Call, before, after, NothingDone, Does, DoesAll, Says, Answers, all_done, one_failed}
 use Rattle.rt_top.specs.Compiling.{Named, IsCompiled, CompileEnds}
-use Rattle.rt_top.specs.declared.faulting.Told.{Told}
-use Rattle.rt_top.specs.declared.faulting.Told.TheVariants as told
-use Rattle.rt_top.specs.Faulting.{items_told, check_told, told_line, line_of}
-use Rattle.rt_top.specs.FileEnds.{FileEnds}
-use Rattle.rt_top.specs.Reading.{missing, too_long, RefusesImage, RefusesModule, RefusesObject, RefusesSystem, RefusesTicks}
+use Rattle.rt_accept.specs.FileEnds.{FileEnds}
+use Rattle.rt_accept.specs.Reading.{missing, too_long, RefusesImage, RefusesModule, RefusesObject, RefusesSystem, RefusesTicks}
 use Rattle.rt_top.specs.Running.{Asked, Refuses, RunEnds, no_memory, refused, unread, carried}
 use Rattle.rt_top.specs.Showing.{IsShown, ShowEnds}
 use Rattle.rt_top.specs.Linking.{LinkNames, IsLinkedNow, LinkEnds}
 use Rattle.rt_top.specs.Stacking.{IsTold, StacksEnd}
-use Rattle.rt_graph.specs.declared.fault.GraphFault.{GraphFault}
-use Rattle.rt_graph.specs.declared.fault.GraphFault.TheVariants as graph
-use Rattle.rt_link.specs.declared.fault.LinkFault.{LinkFault}
-use Rattle.rt_link.specs.declared.fault.LinkFault.TheVariants as link
-use Rattle.rt_match.specs.declared.fault.MatchFault.{MatchFault}
-use Rattle.rt_match.specs.declared.fault.MatchFault.TheVariants as matching
 use Rattle.rt_object.specs.declared.object.ObjectParts.{ObjectParts}
 use Rattle.rt_system.specs.declared.parts.Entry.{Entry}
 use Rattle.rt_system.specs.declared.parts.Entry.TheVariants as entry
-use Rattle.rt_top.specs.Systems.{library_name, IsInTurn, RefusesEntry, RefusesModules}
-use Rattle.rt_top.specs.Verdicts.{RefusesSystems, file_at, module_in, match_line, graph_line}
-use Rattle.rt_top.specs.Verdicts.{line_of as line_of_verdict}
+use Rattle.rt_system.specs.declared.parts.SystemParts.{SystemParts}
+use Rattle.rt_accept.specs.Systems.{library_name, IsInTurn, RefusesEntry, RefusesModules}
+use Rattle.rt_accept.specs.Verdicts.{RefusesVerdict, RefusesSystems}
+use Rattle.rt_accept.proofs.Statuses.{line_status, verdict_status}
+use Rattle.rt_generated.specs.Texts.{writes_of}
+use Rattle.rt_headline.specs.Go.{Go, image_name}
+use Rattle.rt_headline.specs.Outcome as out
+use Rattle.rt_headline.specs.Carrying.{IsCarriedOut, GoEnds}
+use Rattle.rt_headline.specs.Generating.{asked_of, between, GenEnds}
 use Rattle.rt_top.specs.Top.{HasReadFault, HasWriteFault}
 use Rattle.rt_top.proofs.Ends.{rose_on}
 
@@ -86,12 +81,17 @@ deeds_failed c ds m l h =
     let s = stopped ds m (after c) h in
     one_failed_then c s.deed s.middle (two_later (before c) m s.middle l (later s.before m s.middle true s.done)) s.failed
 
+-- deeds of a part of a call, whose failures are the call's
+module _ (c part : Call) (up : HasWriteFault part → HasWriteFault c) where
+  done_within : (ds : List Deed) (n status : ℕ) (m : Outside) → IsLater (before part) m → DoesAll ds n m (after part) status → Caused c n → Caused c status
+  done_within ds n status m l h k = by h.all status h.performed h.answer
+    where
+      by : (all : Bool) (s : ℕ) → Performed ds m (after part) all → Answers n all s → Caused c s
+      by true s p all_done = k
+      by false s p one_failed = by_write c 21 refl (up (deeds_failed part ds m l p))
+
 pub done_or_failed : (c : Call) (ds : List Deed) (n status : ℕ) (m : Outside) → IsLater (before c) m → DoesAll ds n m (after c) status → Caused c n → Caused c status
-done_or_failed c ds n status m l h k = by h.all status h.performed h.answer
-  where
-    by : (all : Bool) (s : ℕ) → Performed ds m (after c) all → Answers n all s → Caused c s
-    by true s p all_done = k
-    by false s p one_failed = by_write c 21 refl (deeds_failed c ds m l p)
+done_or_failed c ds n status m l h k = done_within c c (λ w. w) ds n status m l h k
 
 same : (a : Outside) → IsLater a a
 same a = record { writes = λ n. omega arith; faults = omega arith }
@@ -159,28 +159,10 @@ show_caused c name status h = file_caused c (λ n. n ≡ name) (RefusesObject c.
 
 -- ---- modules
 
--- the status of a line; where there is none, one that is given
-abbrev status_or : ℕ → Option FaultLine → ℕ
-status_or n None = n
-status_or n (Some f) = status_of f
-
-told_status : (name : List ℕ) (o : Option Told) (f : FaultLine) → option_map (told_line name) o ≡ Some f → status_of f ≡ 11
-told_status name None f e = absurd cc
-told_status name (Some (told.Text t l)) f e = ap (status_or 11) (sym e)
-told_status name (Some (told.LeftOut t l)) f e = ap (status_or 11) (sym e)
-
-line_status : (name : List ℕ) (why : CompileFault) (f : FaultLine) → line_of name why ≡ Some f → status_of f ≡ 11
-line_status name compile.Memory f e = absurd cc
-line_status name (compile.Text t) f e = told_status name (items_told t) f e
-line_status name (compile.Syntax l) f e = ap (status_or 11) (sym e)
-line_status name (compile.Check t) f e = told_status name (check_told t) f e
-line_status name (compile.ProcTooLong p) f e = ap (status_or 11) (sym e)
-line_status name compile.Beyond f e = absurd cc
-
 module_refused : (c : Call) (name : List ℕ) (f : FaultLine) → RefusesModule c.files name f → Caused c (status_of f)
 module_refused c name f (RefusesModule.no_file (missing h)) = by_read c 20 refl (HasReadFault.missing name h)
 module_refused c name f (RefusesModule.no_file (too_long h)) = middling c 11 (omega arith) (omega arith)
-module_refused c name f (RefusesModule.no_module why h k e) = subst (Caused c) (sym (line_status name why f e)) (middling c 11 (omega arith) (omega arith))
+module_refused c name f (RefusesModule.no_module why h k apart e) = subst (Caused c) (sym (line_status name why f e)) (middling c 11 (omega arith) (omega arith))
 
 pub compile_caused : (c : Call) (n : Named) (status : ℕ) → CompileEnds c n status → Caused c status
 compile_caused c n status h = file_caused c (λ m. m ≡ n.source) (RefusesModule c.files n.source) (IsCompiled c n) (module_refused c n.source) (λ m k. done_or_failed c (Writes n.object k.bytes ∷ []) 0 m (before c) (same (before c)) k.written (small c 0 (omega arith))) status h
@@ -202,29 +184,11 @@ ten_only c status h = by h.all status h.performed h.answer
 
 -- ---- systems
 
-match_status : (file : List ℕ) (why : MatchFault) (f : FaultLine) → match_line file why ≡ Some f → status_of f ≡ 14
-match_status file matching.Memory f e = absurd cc
-match_status file (matching.Duplicate b) f e = ap (status_or 14) (sym e)
-match_status file (matching.Missing m b) f e = ap (status_or 14) (sym e)
-match_status file (matching.Mismatch m b w found) f e = ap (status_or 14) (sym e)
-match_status file (matching.NotSupplied m b) f e = ap (status_or 14) (sym e)
-
-graph_status : (objects : List ObjectParts) (why : GraphFault) (f : FaultLine) → graph_line objects why ≡ Some f → status_of f ≡ 14
-graph_status objects graph.Memory f e = absurd cc
-graph_status objects (graph.Recursion cycle) f e = ap (status_or 14) (sym e)
-graph_status objects (graph.SmallStack task need has) f e = ap (status_or 14) (sym e)
-graph_status objects (graph.BadTask line) f e = ap (status_or 14) (sym e)
-
-verdict_status : (objects : List ObjectParts) (entries : List Entry) (why : LinkFault) (f : FaultLine) → line_of_verdict objects entries why ≡ Some f → status_of f ≡ 14
-verdict_status objects entries link.Memory f e = absurd cc
-verdict_status objects entries (link.Unmatched m) f e = match_status (file_at entries (module_in m)) m f e
-verdict_status objects entries (link.Refused g) f e = graph_status objects g f e
-verdict_status objects entries (link.NoRoom bytes) f e = ap (status_or 14) (sym e)
-
-system_refused : (c : Call) (name : List ℕ) (f : FaultLine) → RefusesSystem c.files name f → Caused c (status_of f)
-system_refused c name f (RefusesSystem.no_file (missing h)) = by_read c 20 refl (HasReadFault.missing name h)
-system_refused c name f (RefusesSystem.no_file (too_long h)) = middling c 13 (omega arith) (omega arith)
-system_refused c name f (RefusesSystem.bad_line h k) = middling c 13 (omega arith) (omega arith)
+system_refused : (c : Call) (objects : Bool) (name : List ℕ) (f : FaultLine) → RefusesSystem c.files objects name f → Caused c (status_of f)
+system_refused c objects name f (RefusesSystem.no_file (missing h)) = by_read c 20 refl (HasReadFault.missing name h)
+system_refused c objects name f (RefusesSystem.no_file (too_long h)) = middling c 13 (omega arith) (omega arith)
+system_refused c objects name f (RefusesSystem.bad_line h k) = middling c 13 (omega arith) (omega arith)
+system_refused c objects name f (RefusesSystem.object_line h k) = middling c 13 (omega arith) (omega arith)
 
 entry_refused : (c : Call) (e : Entry) (f : FaultLine) → RefusesEntry c.files e f → Caused c (status_of f)
 entry_refused c (entry.Module file) f h = module_refused c file f h
@@ -232,15 +196,68 @@ entry_refused c (entry.Object file) f h = object_refused c file f h
 entry_refused c entry.Library f h = subst (Caused c) (sym (line_status library_name h.why f h.line)) (middling c 11 (omega arith) (omega arith))
 
 modules_refused : (c : Call) (name : List ℕ) (f : FaultLine) → RefusesModules c.files name f → Caused c (status_of f)
-modules_refused c name f (RefusesModules.in_text h) = system_refused c name f h
+modules_refused c name f (RefusesModules.in_text h) = system_refused c true name f h
 modules_refused c name f (RefusesModules.in_line has h) = entry_refused c h.entry f h.refused
+
+verdict_refused : (c : Call) (s : SystemParts) (objects : List ObjectParts) (f : FaultLine) → RefusesVerdict s objects f → Caused c (status_of f)
+verdict_refused c s objects f h = subst (Caused c) (sym (verdict_status objects s.entries h.why f h.line)) (middling c 14 (omega arith) (omega arith))
 
 systems_refused : (c : Call) (name : List ℕ) (f : FaultLine) → RefusesSystems c.files name f → Caused c (status_of f)
 systems_refused c name f (RefusesSystems.in_modules h) = modules_refused c name f h
-systems_refused c name f (RefusesSystems.in_verdict {s = s} {objects = objects} has h) = subst (Caused c) (sym (verdict_status objects s.entries h.why f h.line)) (middling c 14 (omega arith) (omega arith))
+systems_refused c name f (RefusesSystems.in_verdict {s = s} {objects = objects} has h) = verdict_refused c s objects f h
 
 pub link_caused : (c : Call) (n : LinkNames) (status : ℕ) → LinkEnds c n status → Caused c status
 link_caused c n status h = file_caused c (IsInTurn c.files n.system) (RefusesSystems c.files n.system) (IsLinkedNow c n) (systems_refused c n.system) (λ m k. done_or_failed c (Writes n.image k.made.image ∷ Writes n.map k.made.map ∷ []) 0 m (before c) (same (before c)) k.written (small c 0 (omega arith))) status h
 
 pub stacks_caused : (c : Call) (name : List ℕ) (status : ℕ) → StacksEnd c name status → Caused c status
 stacks_caused c name status h = file_caused c (IsInTurn c.files name) (RefusesSystems c.files name) (IsTold c name) (systems_refused c name) (λ m k. said c k.text 0 m k.put (small c 0 (omega arith))) status h
+
+-- ---- go
+
+go_refused : (c : Call) (g : Go) (f : FaultLine) → out.Refuses c.files g f → Caused c (status_of f)
+go_refused c g f (out.Refuses.in_text h) = system_refused c false g.system f h
+go_refused c g f (out.Refuses.in_ticks has h) = ticks_refused c g.ticks f h
+go_refused c g f (out.Refuses.in_module has ticks h) = entry_refused c h.entry f h.refused
+go_refused c g f (out.Refuses.in_verdict {s = s} {objects = objects} has ticks have h) = verdict_refused c s objects f h
+
+-- what was carried out in a part of a call
+out_caused : (c part : Call) → (Rose part.input_faults part.input_faults_after → HasReadFault c) → (HasWriteFault part → HasWriteFault c) → (g : Go) (a : out.System) (status : ℕ) → IsCarriedOut part g a status → Caused c status
+out_caused c part read write g a status h =
+    let k = h.carried in
+    let image_later : IsLater (before part) h.made = h.written.3 in
+    let told_later : IsLater k.middle (after part) = later_after part _ _ status k.middle k.reported in
+    done_within c part write _ (run_status k.end ((k.last).rules).tasks) status k.middle (two_later (before part) h.made k.middle image_later k.later) k.reported
+    (run_ended c k.end ((k.last).rules).tasks (λ e. read (k.read_failed e))
+    (λ e. write (HasWriteFault.output (rose_from part.faults h.made.faults part.faults_after image_later.faults (rose_on h.made.faults (k.middle).faults part.faults_after (k.write_failed e) told_later.faults)))))
+
+pub go_caused : (c : Call) (g : Go) (status : ℕ) → GoEnds c.files c g status → Caused c status
+go_caused c g _ (GoEnds.no_memory h) = by_memory c 30 refl h
+go_caused c g status (GoEnds.refused {f = f} r h) = done_or_failed c _ (status_of f) status (before c) (same (before c)) h.reported (go_refused c g f r)
+go_caused c g status (GoEnds.unread {name = name} turn rose h) = done_or_failed c _ 20 status (before c) (same (before c)) h.reported (by_read c 20 refl (HasReadFault.read name rose))
+go_caused c g _ (GoEnds.unwritten a h) = by_write c 21 refl (HasWriteFault.write (image_name g) h.failed.0)
+go_caused c g status (GoEnds.carried {a = a} k h) = out_caused c c HasReadFault.input (λ w. w) g a status h
+
+-- ---- gen
+
+-- a write that failed between two moments of a call
+within : (c : Call) (a b : Outside) → IsLater (before c) a → IsLater b (after c) → HasWriteFault (between c a b) → HasWriteFault c
+within c a b l k (HasWriteFault.write name h) = HasWriteFault.write name (rose_from (c.writes name) (a.writes name) (c.writes_after name) (l.writes name) (rose_on (a.writes name) (b.writes name) (c.writes_after name) h (k.writes name)))
+within c a b l k (HasWriteFault.output h) = HasWriteFault.output (rose_from c.faults a.faults c.faults_after l.faults (rose_on a.faults b.faults c.faults_after h k.faults))
+
+out_later : (c : Call) (g : Go) (a : out.System) (status : ℕ) → IsCarriedOut c g a status → IsLater (before c) (after c)
+out_later c g a status h =
+    let k = h.carried in
+    two_later (before c) k.middle (after c) (two_later (before c) h.made k.middle h.written.3 k.later) (later_after c _ _ status k.middle k.reported)
+
+pub gen_caused : (c : Call) (n : ℕ) (name : List ℕ) (status : ℕ) → GenEnds IsCarriedOut c n name status → Caused c status
+gen_caused c n name _ (GenEnds.no_memory h) = by_memory c 30 refl h
+gen_caused c n name _ (GenEnds.unwritten h k) = by_write c 21 refl (deeds_failed c (writes_of n name) (before c) (same (before c)) h)
+gen_caused c n name _ (GenEnds.no_image made at h k) =
+    by_write c 21 refl (within c made (after c) (later (writes_of n name) (before c) made true h) (same (after c)) (HasWriteFault.write (image_name (asked_of name)) k.failed.0))
+gen_caused c n name status (GenEnds.failed {a = a} made at h k l) =
+    out_caused c (between c made (after c)) HasReadFault.input (within c made (after c) (later (writes_of n name) (before c) made true h) (same (after c))) (asked_of name) a status k
+gen_caused c n name status (GenEnds.told {a = a} {done = d} made ran at h k l t) =
+    let first = later (writes_of n name) (before c) made true h in
+    let run_later : IsLater made ran = out_later (between c made ran) (asked_of name) a d k in
+    done_or_failed c _ d status ran (two_later (before c) made ran first run_later) t
+    (out_caused c (between c made ran) HasReadFault.input (within c made ran first (later _ ran (after c) t.all t.performed)) (asked_of name) a d k)

@@ -1,26 +1,25 @@
 -- Which files the commands leave as they were.
-use Rattle.std.proofs.Common.{◌≡◌, ◌⊎◌, inl, inr, ℕ, List, [], ◌∷◌, Option, Some, None, refl}
-use Rattle.rt_outside.specs.Deeds.{Writes}
-use Rattle.rt_outside.specs.Laws.{Both}
-use Rattle.rt_first.specs.declared.image.Image.{Image}
-use Rattle.rt_first.specs.declared.refusal.Refusal.{Refusal}
-use Rattle.rt_first.specs.declared.refusal.Refusal.TheVariants.{NoFile}
-use Rattle.rt_first.specs.declared.module.FirstModule.{FirstModule}
-use Rattle.rt_first.specs.declared.system.FirstSystem.{FirstSystem}
-use Rattle.rt_first.specs.Ends.{ChangesTwo}
-use Rattle.rt_first.specs.Headline as go
-use Rattle.rt_first.specs.Words.{Go, image_name, report_name}
+use Rattle.std.proofs.Common.{◌≡◌, inl, inr, ℕ, true, false, List, [], ◌∷◌, Option, refl, sym, subst}
+use Rattle.rt_commands.specs.declared.command.Command.TheVariants as command
+use Rattle.rt_outside.specs.Deeds.{Writes, Puts}
+use Rattle.rt_outside.specs.Laws.{Both, Among, names_in}
 use Rattle.rt_outside.specs.Files.{Files}
-use Rattle.rt_top.specs.Calls.{Call, before, without_input, KeepsOthers}
+use Rattle.rt_accept.specs.Calls.{Call, before, after, KeepsOthers}
+use Rattle.rt_generated.specs.Texts.{writes_of, summary}
+use Rattle.rt_headline.specs.Go.{Go, image_name, report_name}
+use Rattle.rt_headline.specs.Outcome.{System}
+use Rattle.rt_headline.specs.Carrying.{IsCarriedOut, GoEnds}
+use Rattle.rt_headline.specs.Generating.{asked_of, between, GenEnds}
+use Rattle.rt_top.specs.Top.{written_by_go, written_by}
 use Rattle.rt_top.specs.Compiling.{Named, IsCompiled, CompileEnds}
 use Rattle.rt_top.specs.Linking.{LinkNames, IsLinkedNow, LinkEnds}
 use Rattle.rt_top.specs.Running.{Asked, RunEnds, no_memory, refused, unread, carried}
 use Rattle.rt_top.specs.Showing.{IsShown, ShowEnds}
 use Rattle.rt_top.specs.Stacking.{IsTold, StacksEnd}
-use Rattle.rt_top.specs.Reading.{RefusesModule, RefusesObject}
-use Rattle.rt_top.specs.Systems.{IsInTurn}
-use Rattle.rt_top.specs.Verdicts.{RefusesSystems}
-use Rattle.rt_top.proofs.Keeping.{Kept, no_file, by_deeds, by_words, file_kept, only_one}
+use Rattle.rt_accept.specs.Reading.{RefusesModule, RefusesObject}
+use Rattle.rt_accept.specs.Systems.{IsInTurn}
+use Rattle.rt_accept.specs.Verdicts.{RefusesSystems}
+use Rattle.rt_top.proofs.Keeping.{Kept, kept_on, deeds_keep, one_keeps, no_file, by_deeds, by_words, file_kept}
 
 -- ---- commands that put their fault line
 
@@ -46,33 +45,50 @@ run_kept c r status (carried has ticks k) = by_deeds c (r.report ∷ []) _ k.mid
 
 -- ---- go
 
-module _ (c : Call) (g : Go) where
-  abbrev two : List (List ℕ)
-  two = image_name g ∷ report_name g ∷ []
+-- what was carried out, to a moment
+out_keeps : (names : List (List ℕ)) (c : Call) (g : Go) (a : System) (status : ℕ) → Among names (image_name g) → Among names (report_name g) → IsCarriedOut c g a status → Both c.files c.files_after (Kept names)
+out_keeps names c g a status image report h =
+    let k = h.carried in
+    kept_on names c.files h.made.files c.files_after (one_keeps (image_name g) names c.files h.made.files image h.written.1)
+    (subst (λ (x : Option Files). Both x c.files_after (Kept names)) k.files (deeds_keep names _ k.middle (after c) k.reported.all (only (report_name g) names report) k.reported.performed))
+  where
+    only : (name : List ℕ) (ns : List (List ℕ)) → Among ns name → (n : List ℕ) → Among (name ∷ []) n → Among ns n
+    only name ns h n (inl e) = subst (Among ns) (sym e) h
+    only name ns h n (inr e) = absurd e
 
-  only_two : ChangesTwo g c.files c.files_after → KeepsOthers two c
-  only_two h = by c.files c.files_after h
-    where
-      by : (x y : Option Files) → ChangesTwo g x y → Both x y (Kept two)
-      by None y k = tt
-      by (Some f) None k = absurd k
-      by (Some f) (Some h) k = λ n free. k n (λ same. free (inl same)) (λ same. free (inr (inl same)))
+pub go_kept : (files : Option Files) (c : Call) (g : Go) (status : ℕ) → GoEnds files c g status → KeepsOthers (written_by_go g) c
+go_kept files c g _ (GoEnds.no_memory h) = no_file c (written_by_go g) h.files
+go_kept files c g status (GoEnds.refused r h) = by_deeds c (written_by_go g) _ (before c) h.reported.all (λ name among. inr among) refl h.reported.performed
+go_kept files c g status (GoEnds.unread turn rose h) = by_deeds c (written_by_go g) _ (before c) h.reported.all (λ name among. inr among) refl h.reported.performed
+go_kept files c g _ (GoEnds.unwritten a h) = one_keeps (image_name g) (written_by_go g) c.files c.files_after (inl refl) h.failed.1
+go_kept files c g status (GoEnds.carried {a = a} k h) = out_keeps (written_by_go g) c g a status (inl refl) (inr (inl refl)) h
 
-  reported : (refusal : Refusal) (file : List ℕ) (status : ℕ) → go.IsReported (without_input c) g refusal file status → KeepsOthers two c
-  reported refusal file status (inl (s, h)) = only_one c (report_name g) two (inr (inl refl)) h.others
-  reported refusal file status (inr (s, h)) = only_one c (report_name g) two (inr (inl refl)) h.others
+-- ---- gen
 
-  run_done : (s : FirstSystem) (m : FirstModule) (image : Image) (status : ℕ) → go.Runs (without_input c) g s m image status → KeepsOthers two c
-  run_done s m image status (go.Runs.whole r a b d e f h k) = only_two k
-  run_done s m image status (go.Runs.no_report r a b d e f h k) = only_two k
-  run_done s m image status (go.Runs.cut n r a b d e f h k) = only_one c (image_name g) two (inl refl) k
+module _ (c : Call) (n : ℕ) (name : List ℕ) where
+  abbrev five : List (List ℕ)
+  five = written_by (command.Gen n name)
 
-  pub go_kept : (status : ℕ) → go.NothingDone (without_input c) status ⊎ go.ReadFailed (without_input c) g status ⊎ go.IsRefusal (without_input c) g status ⊎ go.IsAccepted (without_input c) g status → KeepsOthers two c
-  go_kept status (inl h) = no_file c two h.1
-  go_kept status (inr (inl h)) = reported NoFile h.file status h.answer
-  go_kept status (inr (inr (inl h))) = reported h.refusal h.file status h.answer
-  go_kept status (inr (inr (inr h))) = by h.done
-    where
-      by : go.ImageFailed (without_input c) g status ⊎ go.Carried (without_input c) g h.system h.parts status → KeepsOthers two c
-      by (inl k) = only_one c (image_name g) two (inl refl) k.others
-      by (inr k) = run_done h.system h.parts k.image status k.runs
+  three : (m : List ℕ) → Among (names_in (writes_of n name)) m → Among five m
+  three m (inl e) = inl e
+  three m (inr (inl e)) = inr (inl e)
+  three m (inr (inr (inl e))) = inr (inr (inl e))
+  three m (inr (inr (inr e))) = absurd e
+
+  image_among : Among five (image_name (asked_of name))
+  image_among = inr (inr (inr (inl refl)))
+
+  report_among : Among five (report_name (asked_of name))
+  report_among = inr (inr (inr (inr (inl refl))))
+
+  pub gen_kept : (status : ℕ) → GenEnds IsCarriedOut c n name status → KeepsOthers five c
+  gen_kept _ (GenEnds.no_memory h) = no_file c five h.files
+  gen_kept _ (GenEnds.unwritten h k) = by_deeds c five (writes_of n name) (before c) false three refl h
+  gen_kept _ (GenEnds.no_image made a h k) =
+      kept_on five c.files made.files c.files_after (deeds_keep five (writes_of n name) (before c) made true three h) (one_keeps (image_name (asked_of name)) five made.files c.files_after image_among k.failed.1)
+  gen_kept status (GenEnds.failed {a = a} made at h k l) =
+      kept_on five c.files made.files c.files_after (deeds_keep five (writes_of n name) (before c) made true three h) (out_keeps five (between c made (after c)) (asked_of name) a status image_among report_among k)
+  gen_kept status (GenEnds.told {a = a} {done = d} made ran at h k l t) =
+      kept_on five c.files made.files c.files_after (deeds_keep five (writes_of n name) (before c) made true three h)
+      (kept_on five made.files ran.files c.files_after (out_keeps five (between c made ran) (asked_of name) a d image_among report_among k)
+      (deeds_keep five (Puts (summary n d) ∷ []) ran (after c) t.all (λ m among. absurd among) t.performed))

@@ -12,7 +12,8 @@ use Rattle.rt_run.specs.Laws.{IsCounted, BoundariesAreCounted}
 use Rattle.rt_run.specs.Picture.{Standing, Shows}
 use Rattle.rt_run.specs.Runs.{Runs, Reaches, IsSettled}
 use Rattle.rt_top.specs.declared.running.Ready.{Ready}
-use Rattle.rt_top.specs.Running.{names_of, Begins}
+use Rattle.rt_headline.specs.Carrying.{names_of}
+use Rattle.rt_top.specs.Running.{Begins}
 
 judged_state : (s : State) (o : Option ℕ) → state_of (judge_by s o) ≡ s
 judged_state s None = refl

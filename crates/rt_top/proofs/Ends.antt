@@ -7,14 +7,15 @@ use Rattle.rt_outside.specs.Files.{Files}
 use Rattle.rt_report.specs.declared.fault.FaultLine.{FaultLine}
 use Rattle.rt_report.specs.declared.fault.FaultLine.TheVariants as fault
 use Rattle.rt_words.specs.Causes.{Rose}
-use Rattle.rt_top.specs.declared.reading.Unaccepted.{Unaccepted}
-use Rattle.rt_top.specs.declared.reading.Unaccepted.TheVariants.{Memory, Refused, Failed}
+use Rattle.rt_accept.specs.declared.reading.Unaccepted.{Unaccepted}
+use Rattle.rt_accept.specs.declared.reading.Unaccepted.TheVariants.{Memory, Refused, Failed}
 use Rattle.rt_report.specs.Faults.{status_of, fault_text}
 use Rattle.rt_run.specs.Inputs.{Feed}
-use Rattle.rt_top.specs.Calls.{Call, the_call, outside, Does, DoesAll, Says, Tells}
-use Rattle.rt_top.specs.FileEnds.{Declines, FileEnds}
-use Rattle.rt_top.specs.Reading.{IsUnaccepted, IsDeclined}
-use Rattle.rt_top.specs.Running.{Asked, IsInTurn, IsRefused, IsRefusal, IsCarried, RunEnds, refused, unread}
+use Rattle.rt_accept.specs.Calls.{Call, the_call, outside, before, Does, DoesAll, Says, Tells}
+use Rattle.rt_accept.specs.FileEnds.{Declines, FileEnds}
+use Rattle.rt_accept.specs.Reading.{IsUnaccepted, IsDeclined}
+use Rattle.rt_headline.specs.Carrying.{IsCarried}
+use Rattle.rt_top.specs.Running.{Asked, IsInTurn, IsRefused, IsRefusal, RunEnds, refused, unread}
 use Rattle.rt_top.proofs.Leaves.{keeps_by}
 
 -- counts that rose stay so
@@ -25,8 +26,8 @@ rose_on a b c h k = grind arith
 abbrev pub from_before : Call → Option Files → (List ℕ → ℕ) → (List ℕ → ℕ) → Call
 from_before d files reads writes = record d { files = files; reads = reads; writes = writes }
 
-pub carried_from : (d : Call) (files : Option Files) (reads writes : List ℕ → ℕ) (r : Asked) (image : ImageParts) (gaps : List ℕ) (status : ℕ) → d.files ≡ files → ((n : List ℕ) → writes n ≤ d.writes n) → IsCarried d r image gaps status → IsCarried (from_before d files reads writes) r image gaps status
-carried_from d files reads writes r image gaps status e w k = record {
+pub carried_from : (d : Call) (files : Option Files) (reads writes : List ℕ → ℕ) (limit : ℕ) (report : List ℕ) (image : ImageParts) (gaps : List ℕ) (status : ℕ) → d.files ≡ files → ((n : List ℕ) → writes n ≤ d.writes n) → IsCarried d (before d) limit report image gaps status → IsCarried (from_before d files reads writes) (before (from_before d files reads writes)) limit report image gaps status
+carried_from d files reads writes limit report image gaps status e w k = record {
   first = k.first;
   last = k.last;
   end = k.end;

@@ -3,7 +3,7 @@ use Rattle.std.proofs.Common.{◌≡◌, ℕ, ◌≤◌, true, false, List, Opti
 use Rattle.std.specs.Io.KnownBytes.{Keeps}
 use Rattle.rt_outside.specs.Deeds.{Deed, Outside, IsLater, Performed}
 use Rattle.rt_outside.specs.Files.{Files}
-use Rattle.rt_top.specs.Calls.{outside, DoesAll, all_done, one_failed, Reports}
+use Rattle.rt_accept.specs.Calls.{outside, DoesAll, all_done, one_failed, Reports}
 
 pub keeps : (o : Option (List ℕ)) → Keeps o o
 keeps None = tt

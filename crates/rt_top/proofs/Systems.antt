@@ -3,11 +3,11 @@ use Rattle.std.proofs.Common.{ℕ, List, Option, Result, Ok, Err, IfErr}
 use Rattle.rt_object.specs.declared.object.ObjectParts.{ObjectParts}
 use Rattle.rt_outside.specs.Files.{Files}
 use Rattle.rt_system.specs.declared.parts.SystemParts.{SystemParts}
-use Rattle.rt_top.specs.declared.reading.Unaccepted.{Unaccepted}
-use Rattle.rt_top.specs.declared.reading.Unaccepted.TheVariants.{Memory, Refused, Failed}
-use Rattle.rt_top.specs.Reading.{IsDeclined}
-use Rattle.rt_top.specs.Systems.{HasModules, IsInTurn, RefusesModules}
-use Rattle.rt_top.specs.Verdicts.{RefusesSystems}
+use Rattle.rt_accept.specs.declared.reading.Unaccepted.{Unaccepted}
+use Rattle.rt_accept.specs.declared.reading.Unaccepted.TheVariants.{Memory, Refused, Failed}
+use Rattle.rt_accept.specs.Reading.{IsDeclined}
+use Rattle.rt_accept.specs.Systems.{HasModules, IsInTurn, RefusesModules}
+use Rattle.rt_accept.specs.Verdicts.{RefusesSystems}
 use Rattle.rt_top.specs.Linking.{IsUnlinked}
 
 module _ (files : Option Files) (name : List ℕ) (reads reads2 : List ℕ → ℕ) where

@@ -5,9 +5,9 @@ use Rattle.rt_commands.specs.declared.command.Command.TheVariants as command
 use Rattle.rt_outside.specs.Deeds.{Writes}
 use Rattle.rt_object.specs.Grammar.{IsObject}
 use Rattle.rt_object.specs.declared.object.ObjectParts.{ObjectParts}
-use Rattle.rt_top.specs.Calls.{Call, before, after, KeepsInput, Does}
-use Rattle.rt_top.specs.FileEnds.{FileEnds}
-use Rattle.rt_top.specs.Reading.{HasModule, RefusesModule}
+use Rattle.rt_accept.specs.Calls.{Call, before, after, KeepsInput, Does}
+use Rattle.rt_accept.specs.FileEnds.{FileEnds}
+use Rattle.rt_accept.specs.Reading.{HasModule, RefusesModule}
 
 -- what is asked: the names of the text and of the object
 pub record Named : Type 0 where

@@ -1,13 +1,8 @@
-pub mod Faulting
-pub mod Reading
-pub mod Systems
-pub mod Verdicts
-pub mod Laws
-pub mod Calls
 pub mod Compiling
-pub mod FileEnds
 pub mod Linking
 pub mod Running
 pub mod Showing
 pub mod Stacking
+pub mod Going
+pub mod Generating
 pub mod Top

@@ -11,13 +11,13 @@ use Rattle.rt_object.specs.declared.object.ObjectParts.{ObjectParts}
 use Rattle.rt_outside.specs.Files.{Files}
 use Rattle.rt_report.specs.Maps.{map_text}
 use Rattle.rt_system.specs.declared.parts.SystemParts.{SystemParts}
-use Rattle.rt_top.specs.Calls.{Call, before, after, KeepsInput, DoesAll}
-use Rattle.rt_top.specs.FileEnds.{FileEnds}
+use Rattle.rt_accept.specs.Calls.{Call, before, after, KeepsInput, DoesAll}
+use Rattle.rt_accept.specs.FileEnds.{FileEnds}
 use Rattle.rt_top.specs.declared.linking.Made.{Made}
-use Rattle.rt_top.specs.declared.reading.Unaccepted.{Unaccepted}
-use Rattle.rt_top.specs.declared.reading.Unaccepted.TheVariants.{Memory, Refused, Failed}
-use Rattle.rt_top.specs.Systems.{HasModules, IsInTurn}
-use Rattle.rt_top.specs.Verdicts.{RefusesVerdict, RefusesSystems}
+use Rattle.rt_accept.specs.declared.reading.Unaccepted.{Unaccepted}
+use Rattle.rt_accept.specs.declared.reading.Unaccepted.TheVariants.{Memory, Refused, Failed}
+use Rattle.rt_accept.specs.Systems.{HasModules, IsInTurn}
+use Rattle.rt_accept.specs.Verdicts.{RefusesVerdict, RefusesSystems}
 
 -- what is asked: the names of the system text, of the image and of the map
 pub record LinkNames : Type 0 where

@@ -1,26 +1,22 @@
 -- What `run IMAGE TICKS LIMIT REPORT` is to do.
-use Rattle.std.specs.Prelude.{◌≡◌, ◌⊎◌, ℕ, ◌≤◌, List, [], length, map, Option}
+use Rattle.std.specs.Prelude.{◌≡◌, ◌⊎◌, ℕ, ◌≤◌, List, [], length, Option}
 use Rattle.rt_commands.specs.Commands.{IsCommand}
 use Rattle.rt_commands.specs.declared.command.Command.TheVariants as command
 use Rattle.rt_commands.specs.declared.lent.TimedWords.{TimedWords}
-use Rattle.rt_outside.specs.Deeds.{Outside, IsLater}
 use Rattle.rt_image.specs.declared.image.ImageParts.{ImageParts}
-use Rattle.rt_image.specs.declared.image.ImageTask.{ImageTask}
 use Rattle.rt_outside.specs.Files.{Files}
 use Rattle.rt_report.specs.declared.fault.FaultLine.{FaultLine}
 use Rattle.rt_report.specs.declared.fault.FaultLine.TheVariants as fault
 use Rattle.rt_report.specs.Faults.{status_of, refusal_text}
-use Rattle.rt_report.specs.Reports.{report_text, run_status, room_for}
-use Rattle.rt_run.specs.declared.machine.End.{End}
-use Rattle.rt_run.specs.declared.machine.End.TheVariants.{ReadFault, WriteFault}
+use Rattle.rt_report.specs.Reports.{room_for}
 use Rattle.rt_run.specs.Boundaries.{start}
-use Rattle.rt_run.specs.Picture.{Standing, Shows}
-use Rattle.rt_run.specs.Runs.{Runs}
+use Rattle.rt_run.specs.Picture.{Shows}
 use Rattle.rt_words.specs.Causes.{Rose}
-use Rattle.rt_top.specs.Calls.{Call, before, after, KeepsInput, NothingDone, Reports}
-use Rattle.rt_top.specs.declared.reading.Unaccepted.{Unaccepted}
+use Rattle.rt_accept.specs.Calls.{Call, before, after, KeepsInput, NothingDone, Reports}
+use Rattle.rt_accept.specs.declared.reading.Unaccepted.{Unaccepted}
+use Rattle.rt_headline.specs.Carrying.{names_of, IsCarried}
 use Rattle.rt_top.specs.declared.running.Ready.{Ready}
-use Rattle.rt_top.specs.Reading.{HasImage, RefusesImage, HasTicks, RefusesTicks, IsDeclined}
+use Rattle.rt_accept.specs.Reading.{HasImage, RefusesImage, HasTicks, RefusesTicks, IsDeclined}
 
 -- what is asked: the names of the image and of the tick text, the limit, and the name of the report
 pub record Asked : Type 0 where
@@ -50,9 +46,6 @@ IsRefused files reads reads_after r = IsDeclined (IsInTurn files r) (Refuses fil
 
 -- ---- what was done
 
-abbrev pub names_of : List ImageTask → List (List ℕ)
-names_of = map (λ (t : ImageTask). t.name)
-
 -- a run that stands at its start, the names of its tasks, and room for its report
 pub record IsReady (image : ImageParts) (gaps : List ℕ) (r : Ready) : Type 0 where
   pub names : r.names ≡ names_of image.tasks
@@ -71,21 +64,6 @@ pub record IsRefusal (c : Call) (r : Asked) (f : FaultLine) (status : ℕ) : Typ
   pub reported : Reports r.report (refusal_text f) (status_of f) (before c) (after c) status
   pub input : KeepsInput c
 
--- The run of the image under the ticks, up to the limit, with the console that the call has; and its report, which is written
--- whatever the run came to. A fault of the console comes only where its count rose.
-pub record IsCarried (c : Call) (r : Asked) (image : ImageParts) (gaps : List ℕ) (status : ℕ) : Type 0 where
-  pub first : Standing
-  pub last : Standing
-  pub end : End
-  pub middle : Outside  -- what is written to, once the run is over
-  pub begins : Shows image first (start image gaps)
-  pub runs : Runs r.limit end first c.left c.written last c.left_after middle.written
-  pub files : middle.files ≡ c.files
-  pub later : IsLater (before c) middle
-  pub read_failed : end ≡ ReadFault → Rose c.input_faults c.input_faults_after
-  pub write_failed : end ≡ WriteFault → Rose c.faults middle.faults
-  pub reported : Reports r.report (report_text (names_of image.tasks) last end) (run_status end last.rules.tasks) middle (after c) status
-
 -- how the command ends
 pub data RunEnds (c : Call) (r : Asked) : ℕ → Type 0 where
   -- memory was wanted
@@ -95,4 +73,4 @@ pub data RunEnds (c : Call) (r : Asked) : ℕ → Type 0 where
   -- or its read failed, by its own count
   unread : {name : List ℕ} {status : ℕ} → IsInTurn c.files r name → Rose (c.reads name) (c.reads_after name) → IsRefusal c r (fault.Unread name) status → RunEnds c r status
   -- both are accepted
-  carried : {image : ImageParts} {gaps : List ℕ} {status : ℕ} → HasImage c.files r.image image → HasTicks c.files r.ticks gaps → IsCarried c r image gaps status → RunEnds c r status
+  carried : {image : ImageParts} {gaps : List ℕ} {status : ℕ} → HasImage c.files r.image image → HasTicks c.files r.ticks gaps → IsCarried c (before c) r.limit r.report image gaps status → RunEnds c r status

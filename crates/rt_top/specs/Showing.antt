@@ -4,9 +4,9 @@ use Rattle.rt_commands.specs.Commands.{IsCommand}
 use Rattle.rt_commands.specs.declared.command.Command.TheVariants as command
 use Rattle.rt_report.specs.Listing.{IsListing}
 use Rattle.rt_object.specs.declared.object.ObjectParts.{ObjectParts}
-use Rattle.rt_top.specs.Calls.{Call, Says}
-use Rattle.rt_top.specs.FileEnds.{FileEnds}
-use Rattle.rt_top.specs.Reading.{HasObject, RefusesObject}
+use Rattle.rt_accept.specs.Calls.{Call, Says}
+use Rattle.rt_accept.specs.FileEnds.{FileEnds}
+use Rattle.rt_accept.specs.Reading.{HasObject, RefusesObject}
 
 abbrev pub IsShow : List (List ℕ) → List ℕ → Type 0
 IsShow words name = IsCommand words (command.Show name)

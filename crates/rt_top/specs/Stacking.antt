@@ -9,10 +9,10 @@ use Rattle.rt_object.specs.declared.object.ObjectParts.{ObjectParts}
 use Rattle.rt_outside.specs.Files.{Files}
 use Rattle.rt_report.specs.Stacks.{table_text}
 use Rattle.rt_system.specs.declared.parts.SystemParts.{SystemParts}
-use Rattle.rt_top.specs.Calls.{Call, Says}
-use Rattle.rt_top.specs.FileEnds.{FileEnds}
-use Rattle.rt_top.specs.Systems.{HasModules, IsInTurn}
-use Rattle.rt_top.specs.Verdicts.{RefusesSystems}
+use Rattle.rt_accept.specs.Calls.{Call, Says}
+use Rattle.rt_accept.specs.FileEnds.{FileEnds}
+use Rattle.rt_accept.specs.Systems.{HasModules, IsInTurn}
+use Rattle.rt_accept.specs.Verdicts.{RefusesSystems}
 
 abbrev pub IsStacks : List (List ℕ) → List ℕ → Type 0
 IsStacks words name = IsCommand words (command.Stacks name)

@@ -3,44 +3,26 @@ use Rattle.std.specs.Prelude.{◌≡◌, ℕ, List, [], ◌∷◌, codes}
 use Rattle.rt_commands.specs.Commands.{IsCommand}
 use Rattle.rt_commands.specs.declared.command.Command.{Command}
 use Rattle.rt_commands.specs.declared.command.Command.TheVariants as command
-use Rattle.rt_commands.specs.declared.lent.TimedWords.{TimedWords}
-use Rattle.rt_first.specs.Headline as go
-use Rattle.rt_first.specs.Words.{Go, IsGo, image_name, report_name}
 use Rattle.rt_outside.specs.Files.{IsTold, Lacks}
 use Rattle.rt_words.specs.Causes.{Rose}
-use Rattle.rt_top.specs.Calls.{Call, without_input, KeepsInput, NothingDone, KeepsOthers, Says}
+use Rattle.rt_accept.specs.Calls.{Call, NothingDone, KeepsOthers, Says}
+use Rattle.rt_generated.specs.Texts.{module_name, system_name, ticks_name}
+use Rattle.rt_headline.specs.Go.{Go, IsGo, image_name, report_name}
+use Rattle.rt_headline.specs.Headline.{Carried, Goes}
+use Rattle.rt_headline.specs.Generating.{IsGen, asked_of, GenEnds}
 use Rattle.rt_top.specs.Compiling.{Named, IsCompile, CompileEnds}
 use Rattle.rt_top.specs.Linking.{LinkNames, IsLink, LinkEnds}
 use Rattle.rt_top.specs.Running.{Asked, IsRun, RunEnds}
 use Rattle.rt_top.specs.Showing.{IsShow, ShowEnds}
 use Rattle.rt_top.specs.Stacking.{IsStacks, StacksEnd}
 
--- what `go` is asked by these words
-abbrev pub asked_go : TimedWords → Go
-asked_go w = record { system = w.first.now; ticks = w.second.now; limit = w.limit; name = w.last.now }
-
--- the commands that are built
-abbrev pub IsBuilt : Command → Type 0
-IsBuilt (command.Go system ticks limit name) = Unit {0}
-IsBuilt (command.Compile source object) = Unit {0}
-IsBuilt (command.Link system image map) = Unit {0}
-IsBuilt (command.Stacks system) = Unit {0}
-IsBuilt (command.Run image ticks limit report) = Unit {0}
-IsBuilt (command.Show object) = Unit {0}
-IsBuilt _ = ⊥
-
--- none of them has these words
+-- no command has these words
 abbrev pub IsNoCommand : List (List ℕ) → Type 0
-IsNoCommand words = (c : Command) → IsBuilt c → IsCommand words c → ⊥
+IsNoCommand words = (c : Command) → IsCommand words c → ⊥
 
 -- the fault line of words that no command has
 abbrev pub words_line : List ℕ
 words_line = codes "FAULT 10\n"
-
--- `go` keeps the promises of systems of the first form, and takes nothing of the input
-pub record Goes (words : List (List ℕ)) (c : Call) (status : ℕ) : Type 0 where
-  pub headline : go.Headline words (without_input c) status
-  pub input : KeepsInput c
 
 -- a file is missing, or the count of a file's reads rose, or that of the input
 pub data HasReadFault (c : Call) : Type 0 where
@@ -53,21 +35,30 @@ pub data HasWriteFault (c : Call) : Type 0 where
   write : (name : List ℕ) → Rose (c.writes name) (c.writes_after name) → HasWriteFault c
   output : Rose c.faults c.faults_after → HasWriteFault c
 
+-- the image and the report of `go`
+abbrev pub written_by_go : Go → List (List ℕ)
+written_by_go g = image_name g ∷ report_name g ∷ []
+
 -- the names of the files that a command may write
 abbrev pub written_by : Command → List (List ℕ)
-written_by (command.Go system ticks limit name) = let g : Go = record { system = system; ticks = ticks; limit = limit; name = name } in image_name g ∷ report_name g ∷ []
+written_by (command.Go system ticks limit name) = written_by_go (record { system = system; ticks = ticks; limit = limit; name = name })
 written_by (command.Compile source object) = object ∷ []
 written_by (command.Link system image map) = image ∷ map ∷ []
+written_by (command.Stacks system) = []
 written_by (command.Run image ticks limit report) = report ∷ []
-written_by _ = []
+written_by (command.Show object) = []
+written_by (command.Gen n name) = module_name name ∷ system_name name ∷ ticks_name name ∷ written_by_go (asked_of name)
 
 -- the names that may be written by these words
 pub data MayWrite (words : List (List ℕ)) : List (List ℕ) → Type 0 where
-  by_command : (d : Command) → IsBuilt d → IsCommand words d → MayWrite words (written_by d)
+  by_command : (d : Command) → IsCommand words d → MayWrite words (written_by d)
   by_none : IsNoCommand words → MayWrite words []
 
 pub record Headline (words : List (List ℕ)) (c : Call) (status : ℕ) : Type 0 where
-  pub goes : (g : Go) → IsGo words g → Goes words c status
+  -- `go`: where it accepts a system, the run is that of the modules' source meaning (rt_headline, Headline)
+  pub goes : (g : Go) → IsGo words g → Goes c.files c g status
+  -- `gen`: the same of the system that it makes
+  pub generates : (n : ℕ) (name : List ℕ) → IsGen words n name → GenEnds Carried c n name status
   pub compiles : (n : Named) → IsCompile words n → CompileEnds c n status
   pub links : (n : LinkNames) → IsLink words n → LinkEnds c n status
   pub stacks : (name : List ℕ) → IsStacks words name → StacksEnd c name status

@@ -2,18 +2,19 @@
 
 ghost use Rattle.std.specs.Prelude.{◌≡◌, map, string_bytes};
 ghost use Rattle.rt_run.specs.Inputs.{feed};
-ghost use Rattle.rt_top.specs.Calls.{the_call};
-ghost use Rattle.rt_first.specs.GoWords.{go_of};
-ghost use Rattle.rt_top.specs.Top.{asked_go, Headline};
+ghost use Rattle.rt_accept.specs.Calls.{the_call};
+ghost use Rattle.rt_top.specs.Top.{Headline};
 
 use crate::compiling::compile;
+use crate::generating::generate;
+use crate::going::go;
 use crate::linking::link;
 use crate::reporting::tell;
 use crate::running::run;
 use crate::showing::show;
 use crate::stacking::stacks;
-use rt_commands::{CommandWords, TimedWords, lend_words};
-use rt_first::{GoWords, go};
+use rt_commands::{CommandWords, lend_words};
+use rt_headline::the_headline_follows;
 use rt_outside::{Sink, Source, Store};
 use std::alloc::Global;
 
@@ -25,7 +26,9 @@ const WORDS_FAULT: &[u8] = b"FAULT 10\n";
 
 /// Does what the words say, and answers the status.
 ///
-/// - `go SYSTEM TICKS LIMIT NAME` compiles, links and runs a system of the first form: [`rt_first::go`].
+/// - `go SYSTEM TICKS LIMIT NAME` reads a system's text, the ticks and the system's modules, links them, writes the image to NAME.IMG, runs
+///   it with `input` and `output` as its console, and writes the report of the run to NAME.RPT. It answers as `run` then; 11, 13, 14 and
+///   20 where a file or the system is refused, whose report is written, 21 where a file can't be written, and 30 for want of memory.
 /// - `compile SOURCE OBJECT` compiles a module's text, and writes its object. It answers 0 then, 11 and 20 where the file is refused,
 ///   whose fault line is put, 21 where the file or the output can't be written, and 30 for want of memory.
 /// - `link SYSTEM IMAGE MAP` reads a system's text and its modules, links them, and writes the image and then its map. It answers 0 then,
@@ -38,6 +41,8 @@ const WORDS_FAULT: &[u8] = b"FAULT 10\n";
 ///   why, and 30 for want of memory.
 /// - `show OBJECT` puts the listing of an object. It answers 0 then, 12 and 20 where the file is refused, whose fault line is put,
 ///   21 where the output can't be written, and 30 for want of memory.
+/// - `gen N NAME` writes the three texts of a generated system, does as `go NAME.SYS NAME.TCK 4000000000 NAME` with these texts, reading
+///   no file, and puts a line behind a run that answers less than 20.
 ///
 /// For all other words the fault line is put, and the answer is 10.
 pub fn top<S: Store, I: Source, O: Sink>(
@@ -55,27 +60,17 @@ pub fn top<S: Store, I: Source, O: Sink>(
         (feed (I.left input.old) (I.ended input.old)) (feed (I.left input.new) (I.ended input.new))
         (I.faults input.old) (I.faults input.new)) result }
 {
+    the_headline_follows();
     let Some(lent) = lend_words(words) else {
         return tell(output, WORDS_FAULT, WRONG_WORDS);
     };
     match lent {
-        CommandWords::Go(timed) => go(alloc, &go_words(timed), store, output),
+        CommandWords::Go(timed) => go(alloc, &timed, store, input, output),
         CommandWords::Compile(source, object) => compile(alloc, source, object, store, output),
         CommandWords::Link(system, image, map) => link(alloc, system, image, map, store, output),
         CommandWords::Stacks(system) => stacks(alloc, system, store, output),
         CommandWords::Run(timed) => run(alloc, &timed, store, input, output),
         CommandWords::Show(object) => show(alloc, object, store, output),
-        _ => tell(output, WORDS_FAULT, WRONG_WORDS),
-    }
-}
-
-fn go_words(timed: TimedWords<'_>) -> GoWords<'_>
-    ensures { go_of result ≡ asked_go timed.entry }
-{
-    GoWords {
-        system: timed.first,
-        ticks: timed.second,
-        limit: timed.limit,
-        name: timed.last,
+        CommandWords::Gen(n, name) => generate(alloc, n, name, store, input, output),
     }
 }

@@ -4,18 +4,18 @@ ghost use Rattle.std.specs.Prelude.{◌≡◌, ◌≤◌, ◌⊎◌, ℕ, List, 
 ghost use Rattle.rt_outside.specs.Files.{Files};
 ghost use Rattle.rt_report.specs.Faults.{status_of, refusal_text};
 ghost use Rattle.rt_outside.specs.Deeds.{Writes};
-ghost use Rattle.rt_top.specs.Calls.{outside, IsKept, Does, DoesAll, Reports, Tells};
-ghost use Rattle.rt_top.specs.FileEnds.{Complains, Declines};
+ghost use Rattle.rt_accept.specs.Calls.{outside, IsKept, Does, DoesAll, Reports, Tells};
+ghost use Rattle.rt_accept.specs.FileEnds.{Complains, Declines};
 
 use crate::linking::Made;
-use crate::reading::Unaccepted;
+use rt_accept::Unaccepted;
 use rt_outside::{Deed, Sink, Store, perform, put_all};
 use rt_report::{FaultLine, fault_line, fault_status, refusal_report};
 use rt_words::{Bytes, Text};
 use std::alloc::Global;
 
 /// The status where a file or the output can't be written.
-const UNWRITTEN: u8 = 21;
+pub const UNWRITTEN: u8 = 21;
 
 /// The status where memory is wanted.
 pub const NO_MEMORY: u8 = 30;

@@ -6,12 +6,13 @@ ghost use Rattle.rt_report.specs.Reports.{room_for};
 ghost use Rattle.rt_run.specs.Boundaries.{start};
 ghost use Rattle.rt_run.specs.Inputs.{feed};
 ghost use Rattle.rt_run.specs.Picture.{Shows};
-ghost use Rattle.rt_top.specs.Calls.{the_call};
-ghost use Rattle.rt_top.specs.Reading.{HasImage, HasTicks};
-ghost use Rattle.rt_top.specs.Running.{asked, names_of, IsRefused, IsReady, Begins, IsCarried, RunEnds};
+ghost use Rattle.rt_accept.specs.Calls.{the_call, outside};
+ghost use Rattle.rt_accept.specs.Reading.{HasImage, HasTicks};
+ghost use Rattle.rt_headline.specs.Carrying.{names_of, IsCarried};
+ghost use Rattle.rt_top.specs.Running.{asked, IsRefused, IsReady, Begins, RunEnds};
 
-use crate::reading::{Unaccepted, accept_image, accept_ticks};
 use crate::reporting::{NO_MEMORY, refuse, write_report};
+use rt_accept::{Unaccepted, accept_image, accept_ticks};
 use rt_commands::TimedWords;
 use rt_image::{Image, ImageTask};
 use rt_outside::{Sink, Source, Store};
@@ -69,7 +70,7 @@ fn copy_names(alloc: Global, tasks: &[ImageTask]) -> Result<List<Name>, Memory>
 }
 
 /// Takes all memory that the run and its report take.
-fn prepare(alloc: Global, accepted: Accepted) -> Result<Ready, Memory>
+pub fn prepare(alloc: Global, accepted: Accepted) -> Result<Ready, Memory>
     ensures { IfOk result (IsReady accepted.image accepted.ticks) }
 {
     let Accepted { image, ticks } = accepted;
@@ -80,15 +81,16 @@ fn prepare(alloc: Global, accepted: Accepted) -> Result<Ready, Memory>
 }
 
 /// Runs, and writes the report.
-fn finish<S: Store, I: Source, O: Sink>(
+pub fn finish<S: Store, I: Source, O: Sink>(
     ready: Ready,
-    words: &TimedWords<'_>,
+    limit: u64,
+    name: &str,
     store: &mut S,
     input: &mut I,
     output: &mut O,
 ) -> u8
     requires begins { Begins ready }
-    requires limit { words.now.limit ≤ 4000000000 }
+    requires limit { limit ≤ 4000000000 }
     ensures { (image : ImageParts) (gaps : List ℕ) → IsReady image gaps ready →
         IsCarried (the_call (S.files store.old) (S.files store.new)
         (S.read_faults store.old) (S.read_faults store.new)
@@ -96,7 +98,7 @@ fn finish<S: Store, I: Source, O: Sink>(
         (O.written output.old) (O.written output.new)
         (O.faults output.old) (O.faults output.new)
         (feed (I.left input.old) (I.ended input.old)) (feed (I.left input.new) (I.ended input.new))
-        (I.faults input.old) (I.faults input.new)) (asked words.now) image gaps result }
+        (I.faults input.old) (I.faults input.new)) (outside (S.files store.old) (S.write_faults store.old) (O.written output.old) (O.faults output.old)) limit name.now image gaps result }
 {
     boundaries_are_counted();
     let Ready {
@@ -104,9 +106,9 @@ fn finish<S: Store, I: Source, O: Sink>(
         mut run,
         report: mut text,
     } = ready;
-    let end = run.go(input, output, words.limit);
+    let end = run.go(input, output, limit);
     let status = report(&run, &end, names.as_slice(), &mut text);
-    write_report(store, output, words.last, text, status)
+    write_report(store, output, name, text, status)
 }
 
 /// Does `run`, and answers its status.
@@ -128,7 +130,7 @@ pub fn run<S: Store, I: Source, O: Sink>(
 {
     match accept(alloc, store, words) {
         Ok(accepted) => match prepare(alloc, accepted) {
-            Ok(ready) => finish(ready, words, store, input, output),
+            Ok(ready) => finish(ready, words.limit, words.last, store, input, output),
             Err(_) => NO_MEMORY,
         },
         Err(Unaccepted::Memory) => NO_MEMORY,

@@ -1,6 +1,6 @@
 -- What the program answers its words.
 use Rattle.std.specs.Prelude.{ℕ, ◌≡◌, ◌≢◌, List, [], ◌∷◌, codes}
-use Rattle.rt_top.specs.Calls.{Call, Says}
+use Rattle.rt_accept.specs.Calls.{Call, Says}
 use Rattle.rt_top.specs.Top.{Headline}
 use Rattle.rtl2.specs.declared.texts.TheConstants.{USAGE, VERSION}
 

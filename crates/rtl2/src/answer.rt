@@ -3,7 +3,7 @@ ghost use Rattle.std.specs.IoError.{error_kind};
 ghost use Rattle.std.specs.Vec.Iter.{into_iter_items};
 ghost use Rattle.rt_outside.specs.Files.{Files};
 ghost use Rattle.rt_run.specs.Inputs.{Feed, feed};
-ghost use Rattle.rt_top.specs.Calls.{the_call, NothingDone, Says};
+ghost use Rattle.rt_accept.specs.Calls.{the_call, NothingDone, Says};
 ghost use Rattle.rt_top.specs.Top.{words_line};
 ghost use Rattle.rtl2.specs.Answers.{Answers};
 

@@ -1,8 +1,8 @@
 use Rattle.std.proofs.Common.{refl}
 use Rattle.rt_outside.specs.Deeds.{Writes}
-use Rattle.rt_top.specs.Calls.{outside}
-use Rattle.rt_top.specs.FileEnds.{FileEnds}
-use Rattle.rt_top.specs.Reading.{RefusesModule}
+use Rattle.rt_accept.specs.Calls.{outside}
+use Rattle.rt_accept.specs.FileEnds.{FileEnds}
+use Rattle.rt_accept.specs.Reading.{RefusesModule}
 use Rattle.rt_top.proofs.Ends.{done_from, one_file, declined, kept_still}
 use Rattle.rt_top.proofs.compiling.compile.Goals as goal
 

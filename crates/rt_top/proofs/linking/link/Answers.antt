@@ -1,7 +1,7 @@
 use Rattle.std.proofs.Common.{[], ◌∷◌, refl}
 use Rattle.rt_outside.specs.Deeds.{Writes}
-use Rattle.rt_top.specs.Calls.{outside}
-use Rattle.rt_top.specs.FileEnds.{FileEnds}
+use Rattle.rt_accept.specs.Calls.{outside}
+use Rattle.rt_accept.specs.FileEnds.{FileEnds}
 use Rattle.rt_top.proofs.Ends.{all_from, declined}
 use Rattle.rt_top.proofs.linking.link.Goals as goal
 

@@ -1,6 +1,6 @@
 use Rattle.std.proofs.Common.{[], ◌∷◌}
 use Rattle.rt_outside.specs.Deeds.{Writes}
-use Rattle.rt_top.specs.Calls.{outside}
+use Rattle.rt_accept.specs.Calls.{outside}
 use Rattle.rt_top.proofs.Leaves.{all_well, not_well}
 use Rattle.rt_top.proofs.reporting.write_both.Goals as goal
 

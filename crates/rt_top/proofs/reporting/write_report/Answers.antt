@@ -1,5 +1,5 @@
 use Rattle.std.proofs.Common.{subst}
-use Rattle.rt_top.specs.Calls.{outside, Reports}
+use Rattle.rt_accept.specs.Calls.{outside, Reports}
 use Rattle.rt_top.proofs.reporting.write_report.Goals as goal
 
 pub returns-clause-reports : goal.returns-clause-reports

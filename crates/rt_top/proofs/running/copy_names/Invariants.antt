@@ -1,5 +1,5 @@
 use Rattle.std.proofs.Common.{◌≡◌, ◌++◌, drop}
-use Rattle.rt_top.specs.Running.{names_of}
+use Rattle.rt_headline.specs.Carrying.{names_of}
 use Rattle.rt_top.proofs.running.copy_names.Given as goal
 
 abbrev pub invariant-loop-task : goal.invariant-loop-task

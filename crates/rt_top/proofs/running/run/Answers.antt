@@ -1,7 +1,7 @@
 use Rattle.std.proofs.Common.{refl, ◌∙◌}
 use Rattle.rt_outside.specs.Deeds.{Writes}
 use Rattle.rt_report.specs.Faults.{refusal_text, status_of}
-use Rattle.rt_top.specs.Calls.{outside, IsKept, Reports}
+use Rattle.rt_accept.specs.Calls.{outside, IsKept, Reports}
 use Rattle.rt_top.specs.Running.{asked, carried, no_memory}
 use Rattle.rt_top.proofs.Leaves.{keeps, keeps_by}
 use Rattle.rt_top.proofs.Ends.{carried_from, done_from, refused_by, unread_by, run_left}
@@ -10,7 +10,7 @@ use Rattle.rt_top.proofs.running.run.Goals as goal
 pub returns-in-Ok-prepare : goal.returns-in-Ok-prepare
 returns-in-Ok-prepare g c =
     carried {image = c.in-Ok.accepted.image} {gaps = c.in-Ok.accepted.ticks} {status = c.finish.result} c.in-Ok.ensures.image c.in-Ok.ensures.ticks
-    (carried_from _ (g.S.Store.files c.args.store.now) (g.S.Store.read_faults c.args.store.now) (g.S.Store.write_faults c.args.store.now) (asked c.args.words.now) c.in-Ok.accepted.image c.in-Ok.accepted.ticks c.finish.result
+    (carried_from _ (g.S.Store.files c.args.store.now) (g.S.Store.read_faults c.args.store.now) (g.S.Store.write_faults c.args.store.now) c.args.words.now.limit c.args.words.now.last.now c.in-Ok.accepted.image c.in-Ok.accepted.ticks c.finish.result
     c.accept.ensures.unchanged c.accept.ensures.writes_later (c.finish.ensures c.in-Ok.accepted.image c.in-Ok.accepted.ticks c.in-Ok-prepare.ensures))
 
 pub returns-in-Err : goal.returns-in-Err

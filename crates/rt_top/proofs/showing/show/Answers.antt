@@ -1,8 +1,8 @@
 use Rattle.std.proofs.Common.{refl, subst}
 use Rattle.rt_outside.specs.Deeds.{Puts}
-use Rattle.rt_top.specs.Calls.{outside, Tells}
-use Rattle.rt_top.specs.FileEnds.{FileEnds}
-use Rattle.rt_top.specs.Reading.{RefusesObject}
+use Rattle.rt_accept.specs.Calls.{outside, Tells}
+use Rattle.rt_accept.specs.FileEnds.{FileEnds}
+use Rattle.rt_accept.specs.Reading.{RefusesObject}
 use Rattle.rt_top.proofs.Ends.{done_from, one_file, declined, kept_still}
 use Rattle.rt_top.proofs.showing.show.Goals as goal
 

@@ -1,7 +1,7 @@
 use Rattle.std.proofs.Common.{refl, subst}
 use Rattle.rt_outside.specs.Deeds.{Puts}
-use Rattle.rt_top.specs.Calls.{outside, Tells}
-use Rattle.rt_top.specs.FileEnds.{FileEnds}
+use Rattle.rt_accept.specs.Calls.{outside, Tells}
+use Rattle.rt_accept.specs.FileEnds.{FileEnds}
 use Rattle.rt_top.proofs.Ends.{done_from, declined}
 use Rattle.rt_top.proofs.stacking.stacks.Goals as goal
 

@@ -1,5 +1,5 @@
 use Rattle.std.proofs.Common.{refl, sym, subst}
-use Rattle.rt_top.specs.Calls.{outside, Tells}
+use Rattle.rt_accept.specs.Calls.{outside, Tells}
 use Rattle.rt_top.specs.Top.{words_line}
 use Rattle.rtl2.proofs.answer.refuse_words.Goals as goal
 

@@ -1,0 +1,4 @@
+pub mod Signed
+pub mod Laws
+pub mod Supplied
+pub mod Leads

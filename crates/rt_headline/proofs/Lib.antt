@@ -1,0 +1,11 @@
+pub mod Standing
+pub mod Named
+pub mod Accepting
+pub mod Running
+pub mod Following
+pub mod Refusing
+pub mod Caused
+pub mod Layers
+pub mod One
+pub mod Generated
+pub mod Cause

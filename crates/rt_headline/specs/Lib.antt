@@ -1,0 +1,9 @@
+pub mod Go
+pub mod Outcome
+pub mod Meaning
+pub mod Carrying
+pub mod Headline
+pub mod Causes
+pub mod Laws
+pub mod Determined
+pub mod Generating

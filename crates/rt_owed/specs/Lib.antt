@@ -1,0 +1,4 @@
+pub mod Owed
+pub mod Systems
+pub mod Imaged
+pub mod Joined

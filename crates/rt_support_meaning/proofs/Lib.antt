@@ -1,0 +1,14 @@
+pub mod Pieces
+pub mod Traps
+pub mod Passed
+pub mod Services
+pub mod Ended
+pub mod Refused
+pub mod Asking
+pub mod Supplied
+pub mod Numbers
+pub mod Divisions
+pub mod Routines
+pub mod Turns
+pub mod Standing
+pub mod All

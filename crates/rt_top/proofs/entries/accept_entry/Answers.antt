@@ -1,7 +1,0 @@
-use Rattle.rt_top.proofs.Lines.{library_declined}
-use Rattle.rt_top.proofs.entries.accept_entry.Goals as goal
-
-pub returns-in-Library-clause-err : goal.returns-in-Library-clause-err
-returns-in-Library-clause-err g c =
-    library_declined (g.S.Store.files c.args.store.now) c.args.entry.now (g.S.Store.read_faults c.args.store.now) c.accept_library.result c.in-Library.is
-    (c.accept_library.ensures.err (g.S.Store.read_faults c.args.store.now) (g.S.Store.read_faults c.args.store.now))
