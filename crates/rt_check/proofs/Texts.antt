@@ -16,7 +16,8 @@ use Rattle.rt_items.specs.Ranges.{IsByte}
 use Rattle.rt_items.proofs.Expanded.{all_in_range}
 use Rattle.rt_syntax.specs.declared.fault.SyntaxFault.{SyntaxFault}
 use Rattle.rt_syntax.specs.declared.fault.SyntaxFault.TheVariants as syntax
-use Rattle.rt_syntax.specs.Derives.{IsOrMemory}
+use Rattle.rt_bricks.specs.Modules.{module_of}
+use Rattle.rt_syntax.specs.Derives.{IsOrMemory, Refuses as Unfit}
 use Rattle.rt_check_module.specs.Typed.{IsTyped}
 use Rattle.rt_check.specs.Whole.{Refuses}
 use Rattle.rt_check.specs.declared.fault.ModuleFault.{ModuleFault}
@@ -57,6 +58,12 @@ no_items t r y f xs is from (inr e) = absurd cc
 pub no_module : (t : ModuleParts) (r : Answer) (y : ModuleFault) (f : SyntaxFault) (m : Module) → r ≡ Err y → y ≡ of_syntax f → IsOrMemory m (Err f) → IsAnswered t r
 no_module t r y syntax.Memory m is from h = inr (is ∙ ap refused from)
 no_module t r y (syntax.Syntax line) m is from h = absurd h
+
+pub no_source : (bytes : List ℕ) (items : List Item) (r : Answer) (y : ModuleFault) (f : SyntaxFault) → Items bytes (Ok items) → r ≡ Err y → y ≡ of_syntax f → Unfit module_of items 0 f → ((m : Module) → Derives items m → IsOrMemory m (Err f)) → IfErr r (IsFaultOf bytes)
+no_source bytes items r y f read is from h only = subst (λ (x : Answer). IfErr x (IsFaultOf bytes)) (sym (is ∙ ap refused from)) (told f h only) where
+  told : (f : SyntaxFault) → Unfit module_of items 0 f → ((m : Module) → Derives items m → IsOrMemory m (Err f)) → IsFaultOf bytes (of_syntax f)
+  told syntax.Memory h only = tt
+  told (syntax.Syntax line) h only = record { items = items; read = read; none = only; refused = h }
 
 module _ (bytes : List ℕ) (small : AllByRecursion IsByte bytes) (items : List Item) (read : Items bytes (Ok items)) (few : length items ≤ 65535) (m : Module) (derived : Derives items m) where
   pub a_source : IsSource bytes m

@@ -1,5 +1,5 @@
 -- The typed tree of a text, and its fault.
-use Rattle.std.specs.Prelude.{ℕ, List, Ok, Err}
+use Rattle.std.specs.Prelude.{⊥, ℕ, List, Ok, Err}
 use Rattle.rt_bricks.specs.declared.tree.Module.{Module}
 use Rattle.rt_bricks.specs.Derives.{Derives}
 use Rattle.rt_bricks.specs.Modules.{module_of}
@@ -25,10 +25,11 @@ pub record IsTree (text : List ℕ) (tree : ModuleParts) : Type 0 where
   pub is_source : IsSource text source
   pub typed : IsTyped source tree
 
--- the text has items that are no module, and the line is that of the first one that is unfit
+-- the text has items that are no module, and the line is that of the first one that is unfit; where none is, of the last one
 pub record IsNoModule (text : List ℕ) (line : ℕ) : Type 0 where
   pub items : List Item
   pub read : Items text (Ok items)
+  pub none : (source : Module) → Derives items source → ⊥
   pub refused : IsRefusedAt module_of items 0 line
 
 -- the text has a module, in which the fault stands that counts

@@ -1,9 +1,11 @@
 use Rattle.std.proofs.Common.{List, Ok, sym, ◌∙◌, subst}
 use Rattle.std.proofs.lemmas.Result.{err_from_is_err_and}
 use Rattle.rt_bricks.specs.Derives.{Derives}
+use Rattle.rt_bricks.specs.Modules.{module_of}
+use Rattle.rt_syntax.specs.Derives.{Refuses as Unfit}
 use Rattle.rt_pieces.specs.declared.item.Item.{Item}
 use Rattle.rt_check_module.specs.Tree.{tree}
-use Rattle.rt_check.proofs.Texts.{same_items, no_items, no_module, a_source, is_derived, typed_as, no_tree, a_tree, unfit}
+use Rattle.rt_check.proofs.Texts.{same_items, no_items, no_module, no_source, a_source, is_derived, typed_as, no_tree, a_tree, unfit}
 use Rattle.rt_check.proofs.text.typed_module.Goals as goal
 
 pub returns-in_err-read-clause-only : goal.returns-in_err-read-clause-only
@@ -19,6 +21,14 @@ returns-in_err-source-clause-only c = λ t small is.
     let same = same_items c.in_ok-read.read s.items (c.in_ok-read.ensures.only (Ok s.items) s.read) in
     no_module t c.from_residual-in_err-source.result p.0 c.in_err-source.field-0.0 is.source p.1 p.2
     (c.in_err-source.ensures.only is.source (subst (λ (xs : List Item). Derives xs is.source) (sym (c.as_slice.ensures ∙ same)) s.derived))
+
+pub returns-in_err-source-clause-fault : goal.returns-in_err-source-clause-fault
+returns-in_err-source-clause-fault c = λ small.
+    let p = err_from_is_err_and c.from_residual-in_err-source.result c.from_residual-in_err-source.ensures.1 in
+    let same = c.as_slice.ensures in
+    no_source c.args.text.now c.in_ok-read.read c.from_residual-in_err-source.result p.0 c.in_err-source.field-0.0 c.in_ok-read.ensures.found p.1 p.2
+    (subst (λ (xs : List Item). Unfit module_of xs 0 c.in_err-source.field-0.0) same c.in_err-source.ensures.refused)
+    (λ m d. c.in_err-source.ensures.only m (subst (λ (xs : List Item). Derives xs m) (sym same) d))
 
 pub returns-in_err-check_module-clause-only : goal.returns-in_err-check_module-clause-only
 returns-in_err-check_module-clause-only c = λ t small is.
