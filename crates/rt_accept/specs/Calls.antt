@@ -4,7 +4,7 @@ use Rattle.std.specs.Prelude.{◌≡◌, ℕ, Bool, true, false, List, [], ◌�
 use Rattle.rt_outside.specs.Deeds.{Deed, Writes, Puts, Outside, Performed}
 use Rattle.rt_outside.specs.Laws.{Both, Among}
 use Rattle.rt_outside.specs.Files.{Files}
-use Rattle.rt_run.specs.Inputs.{Feed}
+use Rattle.rt_run.specs.Inputs.{Feed, feed}
 
 -- the store, the output and the input
 pub record Call : Type 0 where
@@ -23,23 +23,63 @@ pub record Call : Type 0 where
   pub input_faults : ℕ
   pub input_faults_after : ℕ
 
--- a call by what these were before and after: files, reads, writes, what was written, faults of the output, the input, its faults
-abbrev pub the_call : Option Files → Option Files → (List ℕ → ℕ) → (List ℕ → ℕ) → (List ℕ → ℕ) → (List ℕ → ℕ) → Option (List ℕ) → Option (List ℕ) → ℕ → ℕ → Feed → Feed → ℕ → ℕ → Call
-the_call files files2 reads reads2 writes writes2 written written2 faults faults2 left left2 input_faults input_faults2 = record {
-  files = files;
-  files_after = files2;
-  reads = reads;
-  reads_after = reads2;
-  writes = writes;
-  writes_after = writes2;
-  written = written;
-  written_after = written2;
-  faults = faults;
-  faults_after = faults2;
-  left = left;
-  left_after = left2;
-  input_faults = input_faults;
-  input_faults_after = input_faults2;
+-- what a call sees of a store: its files, where it tells them, and how often a read and a write of each name have failed
+pub record Stock : Type 0 where
+  pub files : Option Files
+  pub reads : List ℕ → ℕ
+  pub writes : List ℕ → ℕ
+
+abbrev pub stock : {T : Type 0} → (T → Option Files) → (T → List ℕ → ℕ) → (T → List ℕ → ℕ) → T → Stock
+stock files reads writes x = record { files = files x; reads = reads x; writes = writes x }
+
+-- of an output: the bytes that were put, where it tells them, and how often a put has failed
+pub record Sunk : Type 0 where
+  pub written : Option (List ℕ)
+  pub faults : ℕ
+
+abbrev pub sunk : {T : Type 0} → (T → Option (List ℕ)) → (T → ℕ) → T → Sunk
+sunk written faults x = record { written = written x; faults = faults x }
+
+-- of an input: what it tells of its bytes, and how often a call of it has failed
+pub record Fed : Type 0 where
+  pub left : Feed
+  pub faults : ℕ
+
+abbrev pub fed : {T : Type 0} → (T → Option (List ℕ)) → (T → Bool) → (T → ℕ) → T → Fed
+fed left ended faults x = record { left = feed (left x) (ended x); faults = faults x }
+
+-- before a call, and after it
+pub record Moved (A : Type 0) : Type 0 where
+  pub before : A
+  pub after : A
+
+abbrev pub moved : {T A : Type 0} → (T → A) → T → T → Moved A
+moved seen old new = record { before = seen old; after = seen new }
+
+abbrev pub unmoved : {A : Type 0} → A → Moved A
+unmoved x = record { before = x; after = x }
+
+-- an input of which nothing was taken
+abbrev pub still : Feed → ℕ → Moved Fed
+still left faults = unmoved (record { left = left; faults = faults })
+
+-- a call by what these were before and after
+abbrev pub the_call : Moved Stock → Moved Sunk → Moved Fed → Call
+the_call store output input = record {
+  files = store.before.files;
+  files_after = store.after.files;
+  reads = store.before.reads;
+  reads_after = store.after.reads;
+  writes = store.before.writes;
+  writes_after = store.after.writes;
+  written = output.before.written;
+  written_after = output.after.written;
+  faults = output.before.faults;
+  faults_after = output.after.faults;
+  left = input.before.left;
+  left_after = input.after.left;
+  input_faults = input.before.faults;
+  input_faults_after = input.after.faults;
 }
 
 abbrev pub outside : Option Files → (List ℕ → ℕ) → Option (List ℕ) → ℕ → Outside

@@ -23,7 +23,7 @@ use Rattle.rt_check.specs.Whole.{Refuses}
 use Rattle.rt_check.specs.declared.fault.ModuleFault.{ModuleFault}
 use Rattle.rt_check.specs.declared.fault.ModuleFault.TheVariants.{Memory, Check}
 use Rattle.rt_check.specs.Faults.{of_text, of_syntax, of_check, IsAnswered}
-use Rattle.rt_check.specs.Texts.{IsSource, IsFaultOf}
+use Rattle.rt_check.specs.Texts.{IsSource, IsFaultOf, IsTold, in_lines}
 
 abbrev Answer : Type 0
 Answer = Result ModuleParts ModuleFault
@@ -112,8 +112,27 @@ either_way (check.UnknownLabel at) P h = inr (refl, h)
 either_way (check.NoResult at) P h = inr (refl, h)
 either_way check.Unknown P h = inr (refl, h)
 
-pub unfit : (bytes : List ℕ) (m : Module) (r : Answer) (y : ModuleFault) (f : CheckFault) → IsSource bytes m → r ≡ Err y → y ≡ of_check f → UnlessMemory f (Refuses m.declarations f) → IfErr r (IsFaultOf bytes)
-unfit bytes m r y f source is from h = subst (λ (x : Answer). IfErr x (IsFaultOf bytes)) (sym (is ∙ ap refused from)) (by_case (either_way f (Refuses m.declarations f) h)) where
-  by_case : (of_check f ≡ Memory) ⊎ ((of_check f ≡ Check f) × Refuses m.declarations f) → IsFaultOf bytes (of_check f)
+pub unfit : (bytes : List ℕ) (m : Module) (r : Answer) (y : ModuleFault) (f : CheckFault) (source : IsSource bytes m) → r ≡ Err y → y ≡ of_check f → UnlessMemory f (IsTold source.items m f) → IfErr r (IsFaultOf bytes)
+unfit bytes m r y f source is from h = subst (λ (x : Answer). IfErr x (IsFaultOf bytes)) (sym (is ∙ ap refused from)) (by_case (either_way f (IsTold source.items m f) h)) where
+  by_case : (of_check f ≡ Memory) ⊎ ((of_check f ≡ Check f) × IsTold source.items m f) → IsFaultOf bytes (of_check f)
   by_case (inl e) = subst (IsFaultOf bytes) (sym e) tt
   by_case (inr k) = subst (IsFaultOf bytes) (sym k.0) (record { source = m; is_source = source; refused = k.1 })
+
+-- ---- the line of a fault
+
+told : (items : List Item) (m : Module) (f : CheckFault) → Refuses m.declarations f → IsTold items m (in_lines items f)
+told items m f h = record { fault = f; refused = h; is_told = refl }
+
+pub in_its_line : (items : List Item) (m : Module) (f : CheckFault) → UnlessMemory f (Refuses m.declarations f) → UnlessMemory (in_lines items f) (IsTold items m (in_lines items f))
+in_its_line items m check.Memory h = tt
+in_its_line items m (check.UnknownName at) h = told items m (check.UnknownName at) h
+in_its_line items m (check.WrongMode at) h = told items m (check.WrongMode at) h
+in_its_line items m (check.NotAssignable at) h = told items m (check.NotAssignable at) h
+in_its_line items m (check.WrongCount at) h = told items m (check.WrongCount at) h
+in_its_line items m (check.RefOfLocal at) h = told items m (check.RefOfLocal at) h
+in_its_line items m (check.LeftOut form at) h = told items m (check.LeftOut form at) h
+in_its_line items m (check.DeclaredTwice at) h = told items m (check.DeclaredTwice at) h
+in_its_line items m (check.BadStart at) h = told items m (check.BadStart at) h
+in_its_line items m (check.UnknownLabel at) h = told items m (check.UnknownLabel at) h
+in_its_line items m (check.NoResult at) h = told items m (check.NoResult at) h
+in_its_line items m check.Unknown h = told items m check.Unknown h

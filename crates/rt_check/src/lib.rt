@@ -14,6 +14,7 @@ mod check;
 mod contents;
 mod fault;
 mod laws;
+mod lines;
 mod module;
 mod strings;
 mod text;

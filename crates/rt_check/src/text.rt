@@ -6,12 +6,21 @@ ghost use Rattle.rt_tree_nodes.specs.declared.brick.ModuleParts.{ModuleParts};
 ghost use Rattle.rt_items.specs.Ranges.{IsByte};
 ghost use Rattle.rt_tree.specs.Within.{Within};
 ghost use Rattle.rt_check.specs.Faults.{IsAnswered};
-ghost use Rattle.rt_check.specs.Texts.{IsTree, IsFaultOf};
+ghost use Rattle.rt_check.specs.Texts.{IsTree, IsFaultOf, IsTold};
+ghost use Rattle.rt_check.specs.Derived.{IsDerived};
+ghost use Rattle.rt_check_faults.specs.declared.fault.CheckFault.{CheckFault as Fault};
+ghost use Rattle.rt_check_faults.specs.Outcomes.{IsAnswered as IsOneAnswer, UnlessMemory};
+ghost use Rattle.rt_check_module.specs.Faults.{Stands};
+ghost use Rattle.rt_check_module.specs.Tree.{tree as module_tree};
+ghost use Rattle.rt_check_module.specs.Typed.{IsTyped};
 
 use crate::check_module;
 use crate::fault::ModuleFault;
-use rt_bricks::parse_module;
+use crate::lines::in_lines;
+use rt_bricks::{Module, parse_module};
+use rt_check_faults::CheckFault;
 use rt_items::items;
+use rt_pieces::Item;
 use rt_tree::TypedModule;
 use std::alloc::Global;
 
@@ -32,6 +41,20 @@ pub fn typed_module(alloc: Global, text: &[u8]) -> Result<TypedModule, ModuleFau
     ensures fault { AllByRecursion IsByte text.now → IfErr result (IsFaultOf text.now) }
 {
     let read = items(alloc, text)?;
-    let source = parse_module(alloc, read.as_slice())?;
-    Ok(check_module(alloc, &source)?)
+    let list = read.as_slice();
+    let source = parse_module(alloc, list)?;
+    Ok(checked(alloc, list, &source)?)
+}
+
+// The typed module of a module that these items are.
+fn checked(alloc: Global, items: &[Item], source: &Module) -> Result<TypedModule, CheckFault>
+    ensures tree { IsDerived source.now → IfOk result (IsTyped source.now) }
+    ensures within { IsDerived source.now → IfOk result Within }
+    ensures only { IsDerived source.now → ((g : Fault) → Stands source.now.declarations g → ⊥) → IsOneAnswer (module_tree source.now) result }
+    ensures fault { IsDerived source.now → IfErr result (λ g. UnlessMemory g (IsTold items.now source.now g)) }
+{
+    match check_module(alloc, source) {
+        Ok(typed) => Ok(typed),
+        Err(fault) => Err(in_lines(items, fault)),
+    }
 }

@@ -6,3 +6,4 @@ pub mod Taken
 pub mod Made
 pub mod Whole
 pub mod Keeping
+pub mod Faults

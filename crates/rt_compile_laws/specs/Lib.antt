@@ -1,3 +1,4 @@
 pub mod Long
 pub mod Objects
 pub mod Kept
+pub mod Faults

@@ -1,8 +1,14 @@
 //! The laws, as the contracts of functions that do nothing.
 
+ghost use Rattle.rt_compile_laws.specs.Faults.{TextsHaveOneFault};
 ghost use Rattle.rt_compile_laws.specs.Long.{LongCodeIsLarge, LongTextsAreLarge, SupportIsSmall};
 ghost use Rattle.rt_compile_laws.specs.Objects.{FittingTreesAreCompiled, TextsAreCompiled};
 
+use rt_bricks::one_module;
+use rt_check::one_tree;
+use rt_check_laws::each_module_is_judged;
+use rt_compile::one_object;
+use rt_items::one_reading;
 use rt_lower_laws::code_is_within;
 use rt_sizes_laws::modes_have_sizes;
 use rt_templates_laws::support_is_short;
@@ -44,4 +50,15 @@ pub fn support_is_small()
     ensures { SupportIsSmall }
 {
     support_is_short();
+}
+
+/// A text has one fault: of its items, else of the grammar, else of the checker, else of its code.
+pub fn texts_have_one_fault()
+    ensures { TextsHaveOneFault }
+{
+    one_reading();
+    one_module();
+    one_tree();
+    each_module_is_judged();
+    one_object();
 }

@@ -19,7 +19,8 @@ use Rattle.rt_accept.specs.Systems.{library_name, HasEntry, HaveEntries, Refuses
 use Rattle.rt_headline.specs.Go.{Go}
 use Rattle.rt_headline.specs.Outcome.{Refuses}
 use Rattle.rt_headline.proofs.Layers.{Layers, Lines}
-use Rattle.rt_headline.specs.Determined.{AreAlike, OneRefusal}
+use Rattle.rt_headline.specs.Determined.{SameLine, AreAlike, OneRefusal}
+use Rattle.rt_headline.proofs.SameLines.{as_same}
 use Rattle.rt_headline.proofs.One.{one_text, is_there, in_text, in_ticks, one_system}
 use Rattle.rt_accept.proofs.Statuses.{verdict_status}
 
@@ -57,8 +58,8 @@ module _ (layers : Layers) (rules : Lines) (files : Files) where
   not_had (entry.Object file) o f t h r = let free : false ≡ true = t in absurd cc
   not_had entry.Library o f t h r = layers.no_fault library_text library_name o r.why f h r.fault r.code r.line
 
-  one_entry : (e : Entry) (f f2 : FaultLine) → IsTaken false e → RefusesEntry (Some files) e f → RefusesEntry (Some files) e f2 → f ≡ f2
-  one_entry (entry.Module file) f f2 t (RefusesModule.no_file a) (RefusesModule.no_file b) = no_file _ file f f2 a b
+  one_entry : (e : Entry) (f f2 : FaultLine) → IsTaken false e → RefusesEntry (Some files) e f → RefusesEntry (Some files) e f2 → SameLine f f2
+  one_entry (entry.Module file) f f2 t (RefusesModule.no_file a) (RefusesModule.no_file b) = as_same f f2 (no_file _ file f f2 a b)
   one_entry (entry.Module file) f f2 t (RefusesModule.no_file a) (RefusesModule.no_module {bytes = x} why h k code l) = absurd (is_there files _ file x f h a)
   one_entry (entry.Module file) f f2 t (RefusesModule.no_module {bytes = x} why h k code l) (RefusesModule.no_file b) = absurd (is_there files _ file x f2 h b)
   one_entry (entry.Module file) f f2 t (RefusesModule.no_module {bytes = x} why h k code l) (RefusesModule.no_module {bytes = y} why2 i j code2 m) = rules.one_fault y file why why2 f f2 (subst (λ (b : List ℕ). IsFault b why) (one_text files file x y h i) k) j l m
@@ -73,7 +74,7 @@ module _ (layers : Layers) (rules : Lines) (files : Files) where
 
   -- the first lines that are refused are one
   firsts : (b : List Entry) (e : Entry) (a : List Entry) (c : List Entry) (k : Entry) (d : List Entry) (os ps : List ObjectParts) (f f2 : FaultLine) → (b ++ e ∷ a) ≡ (c ++ k ∷ d) → AllByRecursion (IsTaken false) (b ++ e ∷ a)
-      → HaveEntries (Some files) b os → HaveEntries (Some files) c ps → RefusesEntry (Some files) e f → RefusesEntry (Some files) k f2 → f ≡ f2
+      → HaveEntries (Some files) b os → HaveEntries (Some files) c ps → RefusesEntry (Some files) e f → RefusesEntry (Some files) k f2 → SameLine f f2
   firsts [] e a [] k d os ps f f2 same t h i r s = one_entry e f f2 t.0 r (subst (λ (x : Entry). RefusesEntry (Some files) x f2) (sym (head_same e k a d same)) s)
   firsts [] e a (y ∷ ys) k d os [] f f2 same t h i r s = absurd i
   firsts [] e a (y ∷ ys) k d os (p ∷ ps) f f2 same t h i r s = absurd (not_had e p f t.0 (subst (λ (x : Entry). HasEntry (Some files) x p) (sym (head_same e y a (ys ++ k ∷ d) same)) i.0) r)
@@ -83,7 +84,7 @@ module _ (layers : Layers) (rules : Lines) (files : Files) where
   firsts (x ∷ xs) e a (y ∷ ys) k d (o ∷ os) [] f f2 same t h i r s = absurd i
   firsts (x ∷ xs) e a (y ∷ ys) k d (o ∷ os) (p ∷ ps) f f2 same t h i r s = firsts xs e a ys k d os ps f f2 (tail_same x y (xs ++ e ∷ a) (ys ++ k ∷ d) same) t.1 h.1 i.1 r s
 
-  modules : (es : List Entry) (f f2 : FaultLine) → AllByRecursion (IsTaken false) es → RefusesEntries (Some files) es f → RefusesEntries (Some files) es f2 → f ≡ f2
+  modules : (es : List Entry) (f f2 : FaultLine) → AllByRecursion (IsTaken false) es → RefusesEntries (Some files) es f → RefusesEntries (Some files) es f2 → SameLine f f2
   modules es f f2 t r s =
       let a = r.turn in
       let b = s.turn in
@@ -109,12 +110,12 @@ module _ (layers : Layers) (rules : Lines) (files : Files) where
   taken name s h = h.is_system.parts.taken
 
   alike : (g : Go) (f f2 : FaultLine) → Refuses (Some files) g f → Refuses (Some files) g f2 → AreAlike f f2
-  alike g f f2 (Refuses.in_text a) (Refuses.in_text b) = inl (texts g.system f f2 a b)
+  alike g f f2 (Refuses.in_text a) (Refuses.in_text b) = inl (as_same f f2 (texts g.system f f2 a b))
   alike g f f2 (Refuses.in_text a) (Refuses.in_ticks {s = s} h b) = absurd (in_text layers files g.system s f h a)
   alike g f f2 (Refuses.in_text a) (Refuses.in_module {s = s} h t b) = absurd (in_text layers files g.system s f h a)
   alike g f f2 (Refuses.in_text a) (Refuses.in_verdict {s = s} h t k b) = absurd (in_text layers files g.system s f h a)
   alike g f f2 (Refuses.in_ticks {s = s} h a) (Refuses.in_text b) = absurd (in_text layers files g.system s f2 h b)
-  alike g f f2 (Refuses.in_ticks h a) (Refuses.in_ticks k b) = inl (ticks g.ticks f f2 a b)
+  alike g f f2 (Refuses.in_ticks h a) (Refuses.in_ticks k b) = inl (as_same f f2 (ticks g.ticks f f2 a b))
   alike g f f2 (Refuses.in_ticks h a) (Refuses.in_module {gaps = x} k t b) = absurd (in_ticks layers files g.ticks x f t a)
   alike g f f2 (Refuses.in_ticks h a) (Refuses.in_verdict {gaps = x} k t l b) = absurd (in_ticks layers files g.ticks x f t a)
   alike g f f2 (Refuses.in_module {s = s} h t a) (Refuses.in_text b) = absurd (in_text layers files g.system s f2 h b)

@@ -5,6 +5,7 @@ use Rattle.rt_compile.specs.declared.fault.CompileFault.{CompileFault}
 use Rattle.rt_compile.specs.declared.fault.CompileFault.TheVariants as compile
 use Rattle.rt_compile.specs.Texts.{IsObjectOfText, IsFault}
 use Rattle.rt_compile.specs.Laws.{OneObject, NoneWithLongCode}
+use Rattle.rt_compile_laws.specs.Faults.{TextsHaveOneFault}
 use Rattle.rt_graph.specs.declared.fault.GraphFault.{GraphFault}
 use Rattle.rt_graph.specs.declared.fault.GraphFault.TheVariants as graph
 use Rattle.rt_link.specs.declared.fault.LinkFault.{LinkFault}
@@ -27,7 +28,8 @@ use Rattle.rt_system.specs.Ticks.{IsTicks, IsBadTickLine}
 use Rattle.rt_accept.specs.Faulting.{IsForItsCode, line_of}
 use Rattle.rt_accept.specs.Verdicts.{file_at, module_in, match_line, graph_line}
 use Rattle.rt_accept.specs.Verdicts.{line_of as verdict_line}
-use Rattle.rt_headline.specs.Determined.{TextsHaveOneFault}
+use Rattle.rt_headline.specs.Determined.{SameLine}
+use Rattle.rt_headline.proofs.SameLines.{is_of_text, one_line}
 
 -- each text, and each system of objects, is one thing
 pub record Layers : Type 0 where
@@ -45,7 +47,7 @@ pub record Lines : Type 0 where
   pub one_object_line : (bytes : List ℕ) (n m : ℕ) → IsObjectLine false bytes n → IsObjectLine false bytes m → n ≡ m
   pub not_both : (bytes : List ℕ) (n m : ℕ) → IsBadSystemLine false bytes n → IsObjectLine false bytes m → ⊥
   pub one_bad_tick : (bytes : List ℕ) (n m : ℕ) → IsBadTickLine bytes n → IsBadTickLine bytes m → n ≡ m
-  pub one_fault : TextsHaveOneFault
+  pub one_fault : (text name : List ℕ) (why why2 : CompileFault) (f f2 : FaultLine) → IsFault text why → IsFault text why2 → line_of name why ≡ Some f → line_of name why2 ≡ Some f2 → SameLine f f2
 
 -- ---- systems
 
@@ -95,5 +97,5 @@ lines one one_tick fault = record {
   one_object_line = λ bytes n m h k. let e : reading.Object n ≡ reading.Object m = one false bytes (reading.Object n) (reading.Object m) h k in cc;
   not_both = λ bytes n m h k. let e : reading.Bad n ≡ reading.Object m = one false bytes (reading.Bad n) (reading.Object m) h k in absurd cc;
   one_bad_tick = λ bytes n m h k. let e : reading.BadTicks n ≡ reading.BadTicks m = one_tick bytes (reading.BadTicks n) (reading.BadTicks m) h k in cc;
-  one_fault = fault;
+  one_fault = λ text name why why2 f f2 h k e i. one_line name why why2 f f2 (fault text why why2 h k (is_of_text name why f e) (is_of_text name why2 f2 i)) e i;
 }

@@ -5,6 +5,7 @@ pub mod Running
 pub mod Following
 pub mod Refusing
 pub mod Caused
+pub mod SameLines
 pub mod Layers
 pub mod One
 pub mod Generated

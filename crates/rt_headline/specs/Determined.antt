@@ -1,14 +1,12 @@
 -- Where files are told, the outcome is one: a system isn't both accepted and refused. So `go` does what the files say, but for named excuses.
 use Rattle.std.specs.Prelude.{◌≡◌, ◌⊎◌, ℕ, List, Option, Some}
 use Rattle.rt_words.specs.Causes.{Rose}
-use Rattle.rt_compile.specs.declared.fault.CompileFault.{CompileFault}
-use Rattle.rt_compile.specs.Texts.{IsFault}
 use Rattle.rt_outside.specs.Files.{Files}
 use Rattle.rt_report.specs.declared.fault.FaultLine.{FaultLine}
 use Rattle.rt_report.specs.declared.fault.FaultLine.TheVariants as fault
+use Rattle.rt_report.specs.declared.fault.Form.{Form}
 use Rattle.rt_report.specs.Faults.{status_of}
 use Rattle.rt_accept.specs.Calls.{Call, NothingDone}
-use Rattle.rt_accept.specs.Faulting.{line_of}
 use Rattle.rt_headline.specs.Go.{Go}
 use Rattle.rt_headline.specs.Outcome.{System, Accepts, Refuses, IsInTurn}
 use Rattle.rt_headline.specs.Carrying.{IsRefusal, HasNoImage}
@@ -39,13 +37,14 @@ pub data IsRefusedFor (files : Option Files) (c : Call) (g : Go) : ℕ → Type 
 abbrev pub WhereRefused : Type 0
 WhereRefused = (files : Files) (c : Call) (g : Go) (status : ℕ) (f : FaultLine) → Refuses (Some files) g f → Goes (Some files) c g status → IsRefusedFor (Some files) c g status
 
--- What is left to prove of texts: one has one fault line.
-abbrev pub TextsHaveOneFault : Type 0
-TextsHaveOneFault = (text name : List ℕ) (why why2 : CompileFault) (f f2 : FaultLine) → IsFault text why → IsFault text why2 → line_of name why ≡ Some f → line_of name why2 ≡ Some f2 → f ≡ f2
+-- the same fault line; of parts of the language that are left out at one item it is free by which form it is told
+pub data SameLine : FaultLine → FaultLine → Type 0 where
+  same : {f : FaultLine} → SameLine f f
+  forms : {file : List ℕ} {line : ℕ} {form form2 : Form} → SameLine (fault.LeftOut file line form) (fault.LeftOut file line form2)
 
--- the same fault line; or both are verdicts: which right cycle is printed is free
+-- the same; or both are verdicts: which right cycle is printed is free
 abbrev pub AreAlike : FaultLine → FaultLine → Type 0
-AreAlike f f2 = (f ≡ f2) ⊎ ((status_of f ≡ 14) × (status_of f2 ≡ 14))
+AreAlike f f2 = SameLine f f2 ⊎ ((status_of f ≡ 14) × (status_of f2 ≡ 14))
 
 -- told files are refused for one cause
 abbrev pub OneRefusal : Type 0

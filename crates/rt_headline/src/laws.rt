@@ -6,6 +6,7 @@ ghost use Rattle.rt_headline.specs.Causes as causes;
 ghost use Rattle.rt_headline.specs.Determined as one;
 
 use rt_compile::one_object;
+use rt_compile_laws::texts_have_one_fault;
 use rt_faithful::{ends_are_faithful, linked_images_are_faithful};
 use rt_imaging::tasks_are_those;
 use rt_imaging_laws::linked_images_are_imaged;
@@ -48,13 +49,14 @@ pub fn answers_have_causes()
 {}
 
 /// Where files are told a system isn't both accepted and refused, and `go` does what they say, but for named excuses. They are refused
-/// for one cause, if each text has one fault line.
+/// for one cause.
 pub fn outcomes_are_one()
     ensures both { one.NeverBoth }
     ensures accepted { one.WhereAccepted }
     ensures refused { one.WhereRefused }
-    ensures cause { one.TextsHaveOneFault → one.OneRefusal }
+    ensures cause { one.OneRefusal }
 {
+    texts_have_one_fault();
     texts_have_one_reading();
     tick_texts_have_one_reading();
     one_object();

@@ -12,12 +12,13 @@ use Rattle.rt_report.specs.Faults.{status_of, refusal_text}
 use Rattle.rt_run.specs.Inputs.{Feed}
 use Rattle.rt_accept.specs.declared.reading.Unaccepted.{Unaccepted}
 use Rattle.rt_accept.specs.declared.reading.Unaccepted.TheVariants.{Memory, Refused, Failed}
-use Rattle.rt_accept.specs.Calls.{Call, the_call, outside, before, after, IsKept, Reports, NothingDone}
+use Rattle.rt_accept.specs.Calls.{Call, outside, before, after, IsKept, Reports, NothingDone}
 use Rattle.rt_headline.specs.Go.{Go, image_name, report_name}
 use Rattle.rt_headline.specs.Outcome.{Accepts, Refuses, IsInTurn}
 use Rattle.rt_headline.specs.Carrying.{IsCarried, IsCarriedOut, HasNoImage, IsRefusal, GoEnds}
 use Rattle.rt_top.specs.declared.running.Accepted.{Accepted}
 use Rattle.rt_top.specs.Going.{IsAccepted, IsRefused, IsCarriedOn, IsGivenUp, unwritten, carried}
+use Rattle.rt_top.proofs.Called.{call_of}
 use Rattle.rt_top.proofs.Ends.{rose_on}
 use Rattle.rt_top.proofs.Leaves.{keeps_by}
 
@@ -36,10 +37,10 @@ module _ (name name2 bytes bytes2 : List ℕ) (files files2 : Option Files) (wri
 -- a call, and the same from a later moment, at which the files were the same and no count had fallen
 module _ (files files2 files3 : Option Files) (reads reads2 reads3 writes writes2 writes3 : List ℕ → ℕ) (written written3 : Option (List ℕ)) (faults faults3 : ℕ) (left left3 : Feed) (ins ins3 : ℕ) where
   abbrev pub whole : Call
-  whole = the_call files files3 reads reads3 writes writes3 written written3 faults faults3 left left3 ins ins3
+  whole = call_of files files3 reads reads3 writes writes3 written written3 faults faults3 left left3 ins ins3
 
   abbrev pub rest : Call
-  rest = the_call files2 files3 reads2 reads3 writes2 writes3 written written3 faults faults3 left left3 ins ins3
+  rest = call_of files2 files3 reads2 reads3 writes2 writes3 written written3 faults faults3 left left3 ins ins3
 
   -- the run and its report, in the whole call
   pub run_on : (name name2 : List ℕ) (limit : ℕ) (image : ImageParts) (gaps : List ℕ) (status : ℕ) → name ≡ name2 → IsCarried rest (before rest) limit name image gaps status → IsCarried whole (before rest) limit name2 image gaps status
@@ -112,7 +113,7 @@ ended files c g x status a k = by (is_out files c g x status a k)
 -- a system that wasn't accepted
 module _ (early : BeginsEarlier) (files files2 files3 : Option Files) (reads reads2 reads3 writes writes2 writes3 : List ℕ → ℕ) (written written3 : Option (List ℕ)) (faults faults3 : ℕ) (left : Feed) (ins : ℕ) where
   abbrev the : Call
-  the = the_call files files3 reads reads3 writes writes3 written written3 faults faults3 left left ins ins
+  the = call_of files files3 reads reads3 writes writes3 written written3 faults faults3 left left ins ins
 
   module _ (same : files2 ≡ files) (less : (n : List ℕ) → writes n ≤ writes2 n) (reads_later : (n : List ℕ) → reads2 n ≤ reads3 n) (g : Go) (status : ℕ) where
     wanted : (status ≡ 30) × IsKept (outside files2 writes2 written faults) (outside files3 writes3 written3 faults3) → GoEnds files the g status

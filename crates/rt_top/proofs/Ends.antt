@@ -11,11 +11,12 @@ use Rattle.rt_accept.specs.declared.reading.Unaccepted.{Unaccepted}
 use Rattle.rt_accept.specs.declared.reading.Unaccepted.TheVariants.{Memory, Refused, Failed}
 use Rattle.rt_report.specs.Faults.{status_of, fault_text}
 use Rattle.rt_run.specs.Inputs.{Feed}
-use Rattle.rt_accept.specs.Calls.{Call, the_call, outside, before, Does, DoesAll, Says, Tells}
+use Rattle.rt_accept.specs.Calls.{Call, outside, before, Does, DoesAll, Says, Tells}
 use Rattle.rt_accept.specs.FileEnds.{Declines, FileEnds}
 use Rattle.rt_accept.specs.Reading.{IsUnaccepted, IsDeclined}
 use Rattle.rt_headline.specs.Carrying.{IsCarried}
 use Rattle.rt_top.specs.Running.{Asked, IsInTurn, IsRefused, IsRefusal, RunEnds, refused, unread}
+use Rattle.rt_top.proofs.Called.{call_of}
 use Rattle.rt_top.proofs.Leaves.{keeps_by}
 
 -- counts that rose stay so
@@ -85,7 +86,7 @@ one_file name Refuses reads reads2 (Failed f) h = (name, h.0, refl, h.1)
 -- a file isn't accepted, once files were read
 module _ (IsInTurn : List ℕ → Type 0) (Refuses : FaultLine → Type 0) (IsCarried : ℕ → Type 0) (files files2 : Option Files) (reads reads2 writes writes2 : List ℕ → ℕ) (written written2 : Option (List ℕ)) (faults faults2 : ℕ) (left : Feed) (input_faults status : ℕ) where
   abbrev the : Call
-  the = the_call files files2 reads reads2 writes writes2 written written2 faults faults2 left left input_faults input_faults
+  the = call_of files files2 reads reads2 writes writes2 written written2 faults faults2 left left input_faults input_faults
 
   abbrev Ends : ℕ → Type 0
   Ends = FileEnds IsInTurn Refuses IsCarried the

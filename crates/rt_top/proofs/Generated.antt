@@ -7,7 +7,7 @@ use Rattle.rt_run.specs.Inputs.{Feed}
 use Rattle.rt_generated.specs.declared.store.Texts.{Texts}
 use Rattle.rt_generated.specs.Stores.{file_of, files_in, AreTexts}
 use Rattle.rt_generated.specs.Texts.{module_name, module_text, system_name, system_text, ticks_name, writes_of, files_of, summary}
-use Rattle.rt_accept.specs.Calls.{Call, the_call, before, after, Tells}
+use Rattle.rt_accept.specs.Calls.{Call, before, after, Tells}
 use Rattle.rt_headline.specs.Go.{Go}
 use Rattle.rt_headline.specs.Outcome.{System}
 use Rattle.rt_headline.specs.Carrying.{IsCarriedOut, HasNoImage}
@@ -15,6 +15,7 @@ use Rattle.rt_headline.specs.Generating.{asked_of, GenEnds}
 use Rattle.rt_top.specs.declared.carrying.Prepared.{Prepared}
 use Rattle.rt_top.specs.Generating.{IsReadyFor, up_to, IsAllOut, no_image, failed, told}
 use Rattle.rt_top.specs.Going.{IsCarriedOn}
+use Rattle.rt_top.proofs.Called.{call_of}
 use Rattle.rt_top.proofs.Ending.{is_out}
 
 -- ---- the texts
@@ -85,10 +86,10 @@ same_none c g h = record { bytes = h.bytes; failed = h.failed; input = record { 
 
 module _ (files files2 files3 : Option Files) (reads reads2 reads3 writes writes2 writes3 : List ℕ → ℕ) (written written3 : Option (List ℕ)) (faults faults3 : ℕ) (left left3 : Feed) (ins ins3 : ℕ) where
   abbrev all : Call
-  all = the_call files files3 reads reads3 writes writes3 written written3 faults faults3 left left3 ins ins3
+  all = call_of files files3 reads reads3 writes writes3 written written3 faults faults3 left left3 ins ins3
 
   abbrev rest : Call
-  rest = the_call files2 files3 reads2 reads3 writes2 writes3 written written3 faults faults3 left left3 ins ins3
+  rest = call_of files2 files3 reads2 reads3 writes2 writes3 written written3 faults faults3 left left3 ins ins3
 
   pub gen_ended : (n : ℕ) (name : List ℕ) (fs : Option Files) (g : Go) (status : ℕ) (well : Bool) → well ≡ true → Performed (writes_of n name) (before all) (before rest) well → fs ≡ Some (files_of n name) → g ≡ asked_of name → IsAllOut fs g n rest status → GenEnds IsCarriedOut all n name status
   gen_ended n name fs g status well e p f q h =

@@ -1,3 +1,4 @@
+pub mod Called
 pub mod Leaves
 pub mod Counts
 pub mod Keeping

@@ -2,8 +2,7 @@
 
 ghost use Rattle.std.specs.Prelude.{◌≡◌, ◌≤◌, ◌⊎◌, ◌++◌, ℕ, List, codes, string_bytes, IfOk};
 ghost use Rattle.rt_report.specs.Faults.{status_of, refusal_text};
-ghost use Rattle.rt_run.specs.Inputs.{feed};
-ghost use Rattle.rt_accept.specs.Calls.{the_call, outside, IsKept, Reports};
+ghost use Rattle.rt_accept.specs.Calls.{the_call, moved, stock, sunk, fed, outside, IsKept, Reports};
 ghost use Rattle.rt_top.specs.declared.running.Accepted.{Accepted};
 ghost use Rattle.rt_top.specs.Going.{asked_go, IsPrepared, IsCarriedOn, IsGivenUp};
 ghost use Rattle.rt_top.specs.Running.{Begins};
@@ -81,13 +80,10 @@ pub fn carry_out<S: Store, I: Source, O: Sink>(
     requires begins { Begins prepared.ready }
     requires limit { words.now.limit ≤ 4000000000 }
     ensures { (x : Accepted) → IsPrepared (asked_go words.now) x prepared →
-        IsCarriedOn (the_call (S.files store.old) (S.files store.new)
-        (S.read_faults store.old) (S.read_faults store.new)
-        (S.write_faults store.old) (S.write_faults store.new)
-        (O.written output.old) (O.written output.new)
-        (O.faults output.old) (O.faults output.new)
-        (feed (I.left input.old) (I.ended input.old)) (feed (I.left input.new) (I.ended input.new))
-        (I.faults input.old) (I.faults input.new)) (asked_go words.now) x.image x.ticks result }
+        IsCarriedOn (the_call
+        (moved (stock S.files S.read_faults S.write_faults) store.old store.new)
+        (moved (sunk O.written O.faults) output.old output.new)
+        (moved (fed I.left I.ended I.faults) input.old input.new)) (asked_go words.now) x.image x.ticks result }
 {
     let Prepared {
         bytes,

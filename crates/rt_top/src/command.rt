@@ -1,8 +1,7 @@
 //! The commands by their words.
 
 ghost use Rattle.std.specs.Prelude.{◌≡◌, map, string_bytes};
-ghost use Rattle.rt_run.specs.Inputs.{feed};
-ghost use Rattle.rt_accept.specs.Calls.{the_call};
+ghost use Rattle.rt_accept.specs.Calls.{the_call, moved, stock, sunk, fed};
 ghost use Rattle.rt_top.specs.Top.{Headline};
 
 use crate::compiling::compile;
@@ -52,13 +51,10 @@ pub fn top<S: Store, I: Source, O: Sink>(
     input: &mut I,
     output: &mut O,
 ) -> u8
-    ensures { Headline (map string_bytes words.now) (the_call (S.files store.old) (S.files store.new)
-        (S.read_faults store.old) (S.read_faults store.new)
-        (S.write_faults store.old) (S.write_faults store.new)
-        (O.written output.old) (O.written output.new)
-        (O.faults output.old) (O.faults output.new)
-        (feed (I.left input.old) (I.ended input.old)) (feed (I.left input.new) (I.ended input.new))
-        (I.faults input.old) (I.faults input.new)) result }
+    ensures { Headline (map string_bytes words.now) (the_call
+        (moved (stock S.files S.read_faults S.write_faults) store.old store.new)
+        (moved (sunk O.written O.faults) output.old output.new)
+        (moved (fed I.left I.ended I.faults) input.old input.new)) result }
 {
     the_headline_follows();
     let Some(lent) = lend_words(words) else {

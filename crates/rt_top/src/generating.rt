@@ -1,9 +1,8 @@
 //! `gen`: the three texts of a generated system are written, and the system is carried out as `go` does.
 
 ghost use Rattle.std.specs.Prelude.{◌≡◌, ◌≤◌, ℕ, Option, Some, IfOk};
-ghost use Rattle.rt_run.specs.Inputs.{feed};
 ghost use Rattle.rt_outside.specs.Files.{Files};
-ghost use Rattle.rt_accept.specs.Calls.{the_call};
+ghost use Rattle.rt_accept.specs.Calls.{the_call, moved, stock, sunk, fed};
 ghost use Rattle.rt_generated.specs.Stores.{AreTexts, files_in};
 ghost use Rattle.rt_headline.specs.Carrying.{IsCarriedOut};
 ghost use Rattle.rt_headline.specs.Generating.{GenEnds, asked_of};
@@ -75,13 +74,10 @@ fn carry_all<S: Store, I: Source, O: Sink>(
     requires limit { words.now.limit ≤ 4000000000 }
     requires room { 41 ≤ made.line.spare }
     ensures { (files : Option Files) (n : ℕ) → IsMade files (asked_go words.now) n made →
-        IsAllOut files (asked_go words.now) n (the_call (S.files store.old) (S.files store.new)
-        (S.read_faults store.old) (S.read_faults store.new)
-        (S.write_faults store.old) (S.write_faults store.new)
-        (O.written output.old) (O.written output.new)
-        (O.faults output.old) (O.faults output.new)
-        (feed (I.left input.old) (I.ended input.old)) (feed (I.left input.new) (I.ended input.new))
-        (I.faults input.old) (I.faults input.new)) result }
+        IsAllOut files (asked_go words.now) n (the_call
+        (moved (stock S.files S.read_faults S.write_faults) store.old store.new)
+        (moved (sunk O.written O.faults) output.old output.new)
+        (moved (fed I.left I.ended I.faults) input.old input.new)) result }
 {
     let Made { prepared, mut line } = made;
     let status = carry_out(prepared, words, store, input, output);
@@ -105,13 +101,10 @@ fn carry_texts<S: Store, I: Source, O: Sink>(
     requires limit { words.now.limit ≤ 4000000000 }
     requires room { 41 ≤ made.line.spare }
     ensures { (n : ℕ) (name : _) → AreTexts n name texts.now → asked_go words.now ≡ asked_of name → IsMade (Some (files_in texts.now)) (asked_go words.now) n made →
-        GenEnds IsCarriedOut (the_call (S.files store.old) (S.files store.new)
-        (S.read_faults store.old) (S.read_faults store.new)
-        (S.write_faults store.old) (S.write_faults store.new)
-        (O.written output.old) (O.written output.new)
-        (O.faults output.old) (O.faults output.new)
-        (feed (I.left input.old) (I.ended input.old)) (feed (I.left input.new) (I.ended input.new))
-        (I.faults input.old) (I.faults input.new)) n name result }
+        GenEnds IsCarriedOut (the_call
+        (moved (stock S.files S.read_faults S.write_faults) store.old store.new)
+        (moved (sunk O.written O.faults) output.old output.new)
+        (moved (fed I.left I.ended I.faults) input.old input.new)) n name result }
 {
     if write_texts(texts, store) {
         carry_all(made, words, store, input, output)
@@ -129,13 +122,10 @@ pub fn generate<S: Store, I: Source, O: Sink>(
     input: &mut I,
     output: &mut O,
 ) -> u8
-    ensures { GenEnds IsCarriedOut (the_call (S.files store.old) (S.files store.new)
-        (S.read_faults store.old) (S.read_faults store.new)
-        (S.write_faults store.old) (S.write_faults store.new)
-        (O.written output.old) (O.written output.new)
-        (O.faults output.old) (O.faults output.new)
-        (feed (I.left input.old) (I.ended input.old)) (feed (I.left input.new) (I.ended input.new))
-        (I.faults input.old) (I.faults input.new)) n name.now result }
+    ensures { GenEnds IsCarriedOut (the_call
+        (moved (stock S.files S.read_faults S.write_faults) store.old store.new)
+        (moved (sunk O.written O.faults) output.old output.new)
+        (moved (fed I.left I.ended I.faults) input.old input.new)) n name.now result }
 {
     match make_texts(alloc, n, name) {
         Ok(texts) => {

@@ -1,8 +1,7 @@
 //! `go`: a system is compiled and linked, its image written and run, and the run reported.
 
 ghost use Rattle.std.specs.Prelude.{◌≡◌, ◌≤◌};
-ghost use Rattle.rt_run.specs.Inputs.{feed};
-ghost use Rattle.rt_accept.specs.Calls.{the_call};
+ghost use Rattle.rt_accept.specs.Calls.{the_call, moved, stock, sunk, fed};
 ghost use Rattle.rt_headline.specs.Carrying.{GoEnds};
 ghost use Rattle.rt_top.specs.Going.{asked_go};
 
@@ -22,13 +21,10 @@ pub fn go<S: Store, I: Source, O: Sink>(
     output: &mut O,
 ) -> u8
     requires { words.now.limit ≤ 4000000000 }
-    ensures { GoEnds (S.files store.old) (the_call (S.files store.old) (S.files store.new)
-        (S.read_faults store.old) (S.read_faults store.new)
-        (S.write_faults store.old) (S.write_faults store.new)
-        (O.written output.old) (O.written output.new)
-        (O.faults output.old) (O.faults output.new)
-        (feed (I.left input.old) (I.ended input.old)) (feed (I.left input.new) (I.ended input.new))
-        (I.faults input.old) (I.faults input.new)) (asked_go words.now) result }
+    ensures { GoEnds (S.files store.old) (the_call
+        (moved (stock S.files S.read_faults S.write_faults) store.old store.new)
+        (moved (sunk O.written O.faults) output.old output.new)
+        (moved (fed I.left I.ended I.faults) input.old input.new)) (asked_go words.now) result }
 {
     stretches_join();
     match accept(alloc, store, words) {

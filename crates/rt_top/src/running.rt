@@ -4,9 +4,8 @@ ghost use Rattle.std.specs.Prelude.{◌≡◌, ◌≤◌, [], length, ℕ, List,
 ghost use Rattle.rt_image.specs.declared.image.ImageParts.{ImageParts};
 ghost use Rattle.rt_report.specs.Reports.{room_for};
 ghost use Rattle.rt_run.specs.Boundaries.{start};
-ghost use Rattle.rt_run.specs.Inputs.{feed};
 ghost use Rattle.rt_run.specs.Picture.{Shows};
-ghost use Rattle.rt_accept.specs.Calls.{the_call, outside};
+ghost use Rattle.rt_accept.specs.Calls.{the_call, moved, stock, sunk, fed, outside};
 ghost use Rattle.rt_accept.specs.Reading.{HasImage, HasTicks};
 ghost use Rattle.rt_headline.specs.Carrying.{names_of, IsCarried};
 ghost use Rattle.rt_top.specs.Running.{asked, IsRefused, IsReady, Begins, RunEnds};
@@ -92,13 +91,10 @@ pub fn finish<S: Store, I: Source, O: Sink>(
     requires begins { Begins ready }
     requires limit { limit ≤ 4000000000 }
     ensures { (image : ImageParts) (gaps : List ℕ) → IsReady image gaps ready →
-        IsCarried (the_call (S.files store.old) (S.files store.new)
-        (S.read_faults store.old) (S.read_faults store.new)
-        (S.write_faults store.old) (S.write_faults store.new)
-        (O.written output.old) (O.written output.new)
-        (O.faults output.old) (O.faults output.new)
-        (feed (I.left input.old) (I.ended input.old)) (feed (I.left input.new) (I.ended input.new))
-        (I.faults input.old) (I.faults input.new)) (outside (S.files store.old) (S.write_faults store.old) (O.written output.old) (O.faults output.old)) limit name.now image gaps result }
+        IsCarried (the_call
+        (moved (stock S.files S.read_faults S.write_faults) store.old store.new)
+        (moved (sunk O.written O.faults) output.old output.new)
+        (moved (fed I.left I.ended I.faults) input.old input.new)) (outside (S.files store.old) (S.write_faults store.old) (O.written output.old) (O.faults output.old)) limit name.now image gaps result }
 {
     boundaries_are_counted();
     let Ready {
@@ -120,13 +116,10 @@ pub fn run<S: Store, I: Source, O: Sink>(
     output: &mut O,
 ) -> u8
     requires { words.now.limit ≤ 4000000000 }
-    ensures { RunEnds (the_call (S.files store.old) (S.files store.new)
-        (S.read_faults store.old) (S.read_faults store.new)
-        (S.write_faults store.old) (S.write_faults store.new)
-        (O.written output.old) (O.written output.new)
-        (O.faults output.old) (O.faults output.new)
-        (feed (I.left input.old) (I.ended input.old)) (feed (I.left input.new) (I.ended input.new))
-        (I.faults input.old) (I.faults input.new)) (asked words.now) result }
+    ensures { RunEnds (the_call
+        (moved (stock S.files S.read_faults S.write_faults) store.old store.new)
+        (moved (sunk O.written O.faults) output.old output.new)
+        (moved (fed I.left I.ended I.faults) input.old input.new)) (asked words.now) result }
 {
     match accept(alloc, store, words) {
         Ok(accepted) => match prepare(alloc, accepted) {

@@ -2,12 +2,13 @@ ghost use Rattle.std.specs.Prelude.{◌≡◌, ◌≢◌, ◌⊎◌, ℕ, List, 
 ghost use Rattle.std.specs.IoError.{error_kind};
 ghost use Rattle.std.specs.Vec.Iter.{into_iter_items};
 ghost use Rattle.rt_outside.specs.Files.{Files};
-ghost use Rattle.rt_run.specs.Inputs.{Feed, feed};
-ghost use Rattle.rt_accept.specs.Calls.{the_call, NothingDone, Says};
+ghost use Rattle.rt_run.specs.Inputs.{Feed};
+ghost use Rattle.rt_accept.specs.Calls.{the_call, moved, stock, sunk, fed, still, unmoved, Stock, NothingDone, Says};
 ghost use Rattle.rt_top.specs.Top.{words_line};
 ghost use Rattle.rtl2.specs.Answers.{Answers};
 
-use crate::texts::{USAGE, VERSION};
+use crate::telling::{WRONG_WORDS, complaint, explained, reports};
+use crate::texts::{NO_TEXT, USAGE, VERSION};
 use rt_outside::{Sink, Source, Store};
 use rt_top::{tell, top};
 use std::alloc::{AllocError, Global};
@@ -16,8 +17,6 @@ use std::io;
 use std::io::ErrorKind;
 
 const DONE: u8 = 0;
-
-const WRONG_WORDS: u8 = 10;
 
 const NO_MEMORY: u8 = 30;
 
@@ -31,21 +30,15 @@ pub fn run<R: Eprint, S: Store, I: Source, O: Sink>(
     output: &mut O,
 ) -> u8
     // The words are the arguments without the first, unless memory for them is wanted.
-    ensures words { IfOk args (λ all. let c = the_call (S.files store.old) (S.files store.new)
-        (S.read_faults store.old) (S.read_faults store.new)
-        (S.write_faults store.old) (S.write_faults store.new)
-        (O.written output.old) (O.written output.new)
-        (O.faults output.old) (O.faults output.new)
-        (feed (I.left input.old) (I.ended input.old)) (feed (I.left input.new) (I.ended input.new))
-        (I.faults input.old) (I.faults input.new) in
+    ensures words { IfOk args (λ all. let c = the_call
+        (moved (stock S.files S.read_faults S.write_faults) store.old store.new)
+        (moved (sunk O.written O.faults) output.old output.new)
+        (moved (fed I.left I.ended I.faults) input.old input.new) in
         ((result ≡ 30) × NothingDone c) ⊎ Answers (map string_bytes (drop 1 (into_iter_items all))) c result) }
-    ensures no_words { IfErr args (λ e. let c = the_call (S.files store.old) (S.files store.new)
-        (S.read_faults store.old) (S.read_faults store.new)
-        (S.write_faults store.old) (S.write_faults store.new)
-        (O.written output.old) (O.written output.new)
-        (O.faults output.old) (O.faults output.new)
-        (feed (I.left input.old) (I.ended input.old)) (feed (I.left input.new) (I.ended input.new))
-        (I.faults input.old) (I.faults input.new) in
+    ensures no_words { IfErr args (λ e. let c = the_call
+        (moved (stock S.files S.read_faults S.write_faults) store.old store.new)
+        (moved (sunk O.written O.faults) output.old output.new)
+        (moved (fed I.left I.ended I.faults) input.old input.new) in
         ((result ≡ 30) × NothingDone c) ⊎ ((error_kind e ≢ ErrorKind.OutOfMemory) × Says words_line 10 c result)) }
 {
     match args {
@@ -77,13 +70,10 @@ pub fn answer<R: Eprint, S: Store, I: Source, O: Sink>(
     input: &mut I,
     output: &mut O,
 ) -> u8
-    ensures { Answers (map string_bytes words.now) (the_call (S.files store.old) (S.files store.new)
-        (S.read_faults store.old) (S.read_faults store.new)
-        (S.write_faults store.old) (S.write_faults store.new)
-        (O.written output.old) (O.written output.new)
-        (O.faults output.old) (O.faults output.new)
-        (feed (I.left input.old) (I.ended input.old)) (feed (I.left input.new) (I.ended input.new))
-        (I.faults input.old) (I.faults input.new)) result }
+    ensures { Answers (map string_bytes words.now) (the_call
+        (moved (stock S.files S.read_faults S.write_faults) store.old store.new)
+        (moved (sunk O.written O.faults) output.old output.new)
+        (moved (fed I.left I.ended I.faults) input.old input.new)) result }
 {
     if let [word] = words {
         match word.as_str() {
@@ -92,25 +82,17 @@ pub fn answer<R: Eprint, S: Store, I: Source, O: Sink>(
             _ => {}
         }
     }
-    with_usage(rt, top(alloc, words, store, input, output))
+    let status = top(alloc, words, store, input, output);
+    explained(rt, complaint(words), reports(words), status)
 }
 
 /// Puts the fault line of words that no command has, and writes the usage on standard error.
 fn refuse_words<R: Eprint, O: Sink>(rt: &R, output: &mut O) -> u8
-    ensures { (files : Option Files) (reads writes : List ℕ → ℕ) (left : Feed) (faults : ℕ) → Says words_line 10 (the_call files files reads reads writes writes
-        (O.written output.old) (O.written output.new)
-        (O.faults output.old) (O.faults output.new)
-        left left faults faults) result }
+    ensures { (store : Stock) (left : Feed) (faults : ℕ) → Says words_line 10 (the_call
+        (unmoved store)
+        (moved (sunk O.written O.faults) output.old output.new)
+        (still left faults)) result }
 {
-    with_usage(rt, tell(output, b"FAULT 10\n", WRONG_WORDS))
-}
-
-// The same status; for wrong words the usage is written on standard error.
-fn with_usage<R: Eprint>(rt: &R, status: u8) -> u8
-    ensures { result ≡ status }
-{
-    if status == WRONG_WORDS {
-        let _ = rt.eprint(USAGE);
-    }
-    status
+    let status = tell(output, b"FAULT 10\n", WRONG_WORDS);
+    explained(rt, NO_TEXT, false, status)
 }

@@ -6,6 +6,8 @@ mod answer;
 mod console;
 mod errors;
 mod files;
+mod replace;
+mod telling;
 mod texts;
 
 use answer::run;

@@ -30,26 +30,26 @@ returns-in_err-source-clause-fault c = λ small.
     (subst (λ (xs : List Item). Unfit module_of xs 0 c.in_err-source.field-0.0) same c.in_err-source.ensures.refused)
     (λ m d. c.in_err-source.ensures.only m (subst (λ (xs : List Item). Derives xs m) (sym same) d))
 
-pub returns-in_err-check_module-clause-only : goal.returns-in_err-check_module-clause-only
-returns-in_err-check_module-clause-only c = λ t small is.
-    let p = err_from_is_err_and c.from_residual-in_err-check_module.result c.from_residual-in_err-check_module.ensures.1 in
+pub returns-in_err-checked-clause-only : goal.returns-in_err-checked-clause-only
+returns-in_err-checked-clause-only c = λ t small is.
+    let p = err_from_is_err_and c.from_residual-in_err-checked.result c.from_residual-in_err-checked.ensures.1 in
     let s = is.is_source in
     let m = c.in_ok-source.source in
     let same = same_items c.in_ok-read.read s.items (c.in_ok-read.ensures.only (Ok s.items) s.read) in
     let found = c.in_ok-source.ensures.only is.source (subst (λ (xs : List Item). Derives xs is.source) (sym (c.as_slice.ensures ∙ same)) s.derived) in
     let typed = typed_as m is.source t found is.typed in
     let derived = subst (λ (xs : List Item). Derives xs m) c.as_slice.ensures c.in_ok-source.ensures.found in
-    no_tree t (tree m) c.from_residual-in_err-check_module.result p.0 c.in_err-check_module.field-0.0 p.1 p.2
-    (c.in_err-check_module.ensures.only (is_derived c.args.text.now small c.in_ok-read.read c.in_ok-read.ensures.found c.in_ok-read.ensures.limit m derived) typed.fit)
+    no_tree t (tree m) c.from_residual-in_err-checked.result p.0 c.in_err-checked.field-0.0 p.1 p.2
+    (c.in_err-checked.ensures.only (is_derived c.args.text.now small c.in_ok-read.read c.in_ok-read.ensures.found c.in_ok-read.ensures.limit m derived) typed.fit)
 
-pub returns-in_err-check_module-clause-fault : goal.returns-in_err-check_module-clause-fault
-returns-in_err-check_module-clause-fault c = λ small.
-    let p = err_from_is_err_and c.from_residual-in_err-check_module.result c.from_residual-in_err-check_module.ensures.1 in
+pub returns-in_err-checked-clause-fault : goal.returns-in_err-checked-clause-fault
+returns-in_err-checked-clause-fault c = λ small.
+    let p = err_from_is_err_and c.from_residual-in_err-checked.result c.from_residual-in_err-checked.ensures.1 in
     let m = c.in_ok-source.source in
     let derived = subst (λ (xs : List Item). Derives xs m) c.as_slice.ensures c.in_ok-source.ensures.found in
-    unfit c.args.text.now m c.from_residual-in_err-check_module.result p.0 c.in_err-check_module.field-0.0
+    unfit c.args.text.now m c.from_residual-in_err-checked.result p.0 c.in_err-checked.field-0.0
     (a_source c.args.text.now small c.in_ok-read.read c.in_ok-read.ensures.found c.in_ok-read.ensures.limit m derived) p.1 p.2
-    (c.in_err-check_module.ensures.fault (is_derived c.args.text.now small c.in_ok-read.read c.in_ok-read.ensures.found c.in_ok-read.ensures.limit m derived))
+    (c.in_err-checked.ensures.fault (is_derived c.args.text.now small c.in_ok-read.read c.in_ok-read.ensures.found c.in_ok-read.ensures.limit m derived))
 
 pub returns-clause-tree : goal.returns-clause-tree
 returns-clause-tree c = λ small.
@@ -58,14 +58,14 @@ returns-clause-tree c = λ small.
     record {
       source = m;
       is_source = a_source c.args.text.now small c.in_ok-read.read c.in_ok-read.ensures.found c.in_ok-read.ensures.limit m derived;
-      typed = c.in_ok-check_module.ensures.tree (is_derived c.args.text.now small c.in_ok-read.read c.in_ok-read.ensures.found c.in_ok-read.ensures.limit m derived);
+      typed = c.in_ok-checked.ensures.tree (is_derived c.args.text.now small c.in_ok-read.read c.in_ok-read.ensures.found c.in_ok-read.ensures.limit m derived);
     }
 
 pub returns-clause-within : goal.returns-clause-within
 returns-clause-within c = λ small.
     let m = c.in_ok-source.source in
     let derived = subst (λ (xs : List Item). Derives xs m) c.as_slice.ensures c.in_ok-source.ensures.found in
-    c.in_ok-check_module.ensures.within (is_derived c.args.text.now small c.in_ok-read.read c.in_ok-read.ensures.found c.in_ok-read.ensures.limit m derived)
+    c.in_ok-checked.ensures.within (is_derived c.args.text.now small c.in_ok-read.read c.in_ok-read.ensures.found c.in_ok-read.ensures.limit m derived)
 
 pub returns-clause-only : goal.returns-clause-only
 returns-clause-only c = λ t small is.
@@ -75,5 +75,5 @@ returns-clause-only c = λ t small is.
     let found = c.in_ok-source.ensures.only is.source (subst (λ (xs : List Item). Derives xs is.source) (sym (c.as_slice.ensures ∙ same)) s.derived) in
     let typed = typed_as m is.source t found is.typed in
     let derived = subst (λ (xs : List Item). Derives xs m) c.as_slice.ensures c.in_ok-source.ensures.found in
-    a_tree t (tree m) c.in_ok-check_module.field-0 typed.is
-    (c.in_ok-check_module.ensures.only (is_derived c.args.text.now small c.in_ok-read.read c.in_ok-read.ensures.found c.in_ok-read.ensures.limit m derived) typed.fit)
+    a_tree t (tree m) c.in_ok-checked.field-0 typed.is
+    (c.in_ok-checked.ensures.only (is_derived c.args.text.now small c.in_ok-read.read c.in_ok-read.ensures.found c.in_ok-read.ensures.limit m derived) typed.fit)

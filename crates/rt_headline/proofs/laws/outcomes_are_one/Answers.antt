@@ -17,5 +17,5 @@ pub returns-clause-refused : goal.returns-clause-refused
 returns-clause-refused c = where_refused (the_layers (goal.at.returns-clause-refused c).After-one_verdict)
 
 pub returns-clause-cause : goal.returns-clause-cause
-returns-clause-cause c = λ fault.
-    one_refusal (the_layers (goal.at.returns-clause-cause c).After-one_verdict) (lines c.texts_have_one_reading.ensures.one c.tick_texts_have_one_reading.ensures.one fault)
+returns-clause-cause c =
+    one_refusal (the_layers (goal.at.returns-clause-cause c).After-one_verdict) (lines c.texts_have_one_reading.ensures.one c.tick_texts_have_one_reading.ensures.one c.texts_have_one_fault.ensures)

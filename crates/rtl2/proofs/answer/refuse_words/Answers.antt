@@ -4,7 +4,7 @@ use Rattle.rt_top.specs.Top.{words_line}
 use Rattle.rtl2.proofs.answer.refuse_words.Goals as goal
 
 pub returns : goal.returns
-returns g c = λ files reads writes left faults. record {
-  tells = subst (λ n. Tells words_line 10 (outside files writes (g.O.Sink.written c.args.output.now) (g.O.Sink.faults c.args.output.now)) (outside files writes (g.O.Sink.written c.tell.new.output) (g.O.Sink.faults c.tell.new.output)) n) (sym c.with_usage.ensures) (c.tell.ensures files writes);
+returns g c = λ store left faults. record {
+  tells = subst (λ n. Tells words_line 10 (outside store.files store.writes (g.O.Sink.written c.args.output.now) (g.O.Sink.faults c.args.output.now)) (outside store.files store.writes (g.O.Sink.written c.tell.new.output) (g.O.Sink.faults c.tell.new.output)) n) (sym c.explained.ensures) (c.tell.ensures store.files store.writes);
   input = record { left = refl; faults = refl };
 }
