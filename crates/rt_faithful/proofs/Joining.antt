@@ -46,7 +46,8 @@ use Rattle.rt_follows.specs.Follows.{IsFine, asked_by, answered, quiet_after, Ow
 use Rattle.rt_faithful.specs.Faithful.{home_of, quiet}
 use Rattle.rt_faithful.specs.Imaged.{Imaged}
 use Rattle.rt_faithful.specs.Services.{SameService}
-use Rattle.rt_faithful.proofs.Joined.{Joined, Given}
+use Rattle.rt_faithful.specs.Joined.{Joined}
+use Rattle.rt_faithful.proofs.Joined.{Given}
 use Rattle.rt_meaning.proofs.Longer.{one_more_tick}
 use Rattle.rt_meaning_laws.proofs.SourceRuns.{byte_comes}
 use Rattle.rt_faithful.proofs.Placed.{placed_more, rise_last}
@@ -123,7 +124,7 @@ module _ (given : Given) (w : Whole) (image : ImageParts) (ts : List SourceTask)
 
   -- ---- ticks
 
-  ticked_joined : (s : State) (left : List ℕ) → J s → J (ticked s left)
+  pub ticked_joined : (s : State) (left : List ℕ) → J s → J (ticked s left)
   ticked_joined s left j =
       let r = j.reached in
       record {
@@ -312,6 +313,15 @@ module _ (given : Given) (w : Whole) (image : ImageParts) (ts : List SourceTask)
 
     landed_fine : Fine (landed input s i n x)
     landed_fine = subst Fine (sym (landed_is x.stop (c.holds 0).fine)) (at_boundary s1 joined)
+
+    -- what the instruction leaves, with this mark
+    abbrev Keeps : ℕ → Outcome → Type 0
+    Keeps m y = IsFine y.stop × J (made_by s i m y (machine.serve s.rules s.taken (slice_get input s.taken) i (machine.asked_by y.stop y.regs)))
+
+    pub kept : Keeps (mark_at image (reg g Pc)) (execute (protected (places_of image (i - 1)) s.memory) g)
+    kept =
+        subst (λ m. Keeps m (execute (protected (places_of image (i - 1)) s.memory) g)) (is.marks (reg g Pc))
+        (subst (λ (p : Protection). Keeps n (execute (protected p s.memory) g)) (same_protection i) ((c.holds 0).fine, joined))
 
     instruction_fine : Fine (landed input s i (mark_at image (reg g Pc)) (execute (protected (places_of image (i - 1)) s.memory) g))
     instruction_fine =

@@ -20,8 +20,9 @@ use Rattle.rt_follows.specs.Whole.{Whole}
 use Rattle.rt_follows.specs.Follows.{Follows}
 use Rattle.rt_faithful.specs.Faithful.{home_of, IsFaithfulAt, Meets, Faithful}
 use Rattle.rt_faithful.specs.Imaged.{Imaged}
-use Rattle.rt_faithful.specs.Laws.{LinkedImagesAreFaithful}
-use Rattle.rt_faithful.proofs.Joined.{Joined, Given}
+use Rattle.rt_faithful.specs.Laws.{LinkedImagesAreFaithful, StartsAreJoined, TicksKeepJoined, InstructionsKeepJoined}
+use Rattle.rt_faithful.specs.Joined.{Joined}
+use Rattle.rt_faithful.proofs.Joined.{Given}
 use Rattle.rt_faithful.proofs.Begun as begun
 use Rattle.rt_faithful.proofs.Joining as joining
 
@@ -66,7 +67,7 @@ module _ (given : Given) (w : Whole) (image : ImageParts) (ts : List SourceTask)
         subst (λ (t : Task). Follows w (home_of image i) k 0 g (start_memory image) t) (sym (ap task_in (task_is ts (i - 1) x.0 x.1)))
         (subst (λ (z : Regs). Follows w (home_of image i) k 0 z (start_memory image) (task_of (root_of x.0))) regs_are (begun.follows given w image ts is i u.0 x.0 one u.1 x.1 k))
 
-    first : (gaps : List ℕ) → Joined w image ts input (start image gaps)
+    pub first : (gaps : List ℕ) → Joined w image ts input (start image gaps)
     first gaps = record {
       reached = record { state = beginning w.ps ts; output = [] };
       placed = refl;
@@ -114,3 +115,14 @@ module _ (given : Given) (w : Whole) (image : ImageParts) (ts : List SourceTask)
 
 pub linked_faithful : Given → LinkedImagesAreFaithful
 linked_faithful given w image ts is = faithful given w image ts is
+
+-- ---- side by side
+
+pub starts_are_joined : Given → StartsAreJoined
+starts_are_joined given w image ts gaps input is typed = first given w image ts is input typed gaps
+
+pub ticks_keep_joined : Given → TicksKeepJoined
+ticks_keep_joined given w image ts input s left is typed j = joining.ticked_joined given w image ts is input typed s left j
+
+pub instructions_keep_joined : Given → InstructionsKeepJoined
+instructions_keep_joined given w image ts input s i g is typed j runs had = joining.kept given w image ts is input typed s j i g runs had

@@ -43,6 +43,24 @@ pub fn linked_images_are_faithful()
     parts_make_one_memory();
 }
 
+/// The machine's run and the source's go side by side: at the start each task follows its source's task for every number of instructions,
+/// and each tick, and each instruction with the steps that its mark says, keeps it so for all tasks.
+pub fn runs_go_side_by_side()
+    ensures start { laws.StartsAreJoined }
+    ensures tick { laws.TicksKeepJoined }
+    ensures instruction { laws.InstructionsKeepJoined }
+{
+    tasks_own_their_parts();
+    services_are_of_the_source();
+    what_comes_may_come();
+    others_keep_their_bytes();
+    tasks_follow();
+    images_lie_in_memory();
+    source_runs_fit();
+    ended_tasks_stay_ended();
+    parts_make_one_memory();
+}
+
 /// However a run of a faithful image up to a limit ends, no instruction has faulted, and it is faithful there.
 pub fn ends_are_faithful()
     ensures { laws.EndsAreFaithful }

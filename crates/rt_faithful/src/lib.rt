@@ -7,6 +7,6 @@
 mod laws;
 
 pub use laws::{
-    ends_are_faithful, linked_images_are_faithful, services_are_of_the_source,
-    tasks_own_their_parts, what_comes_may_come,
+    ends_are_faithful, linked_images_are_faithful, runs_go_side_by_side,
+    services_are_of_the_source, tasks_own_their_parts, what_comes_may_come,
 };
