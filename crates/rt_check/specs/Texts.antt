@@ -1,5 +1,5 @@
 -- The typed tree of a text, and its fault.
-use Rattle.std.specs.Prelude.{◌≡◌, ⊥, ℕ, List, Ok, Err, slice_get}
+use Rattle.std.specs.Prelude.{◌≡◌, ℕ, List, Ok, Err, slice_get}
 use Rattle.rt_bricks.specs.declared.tree.Module.{Module}
 use Rattle.rt_bricks.specs.Derives.{Derives}
 use Rattle.rt_bricks.specs.Modules.{module_of}

@@ -1,5 +1,5 @@
 -- A text has one fault: of its items, else of the grammar, else of the checker, else of its code.
-use Rattle.std.proofs.Common.{◌≡◌, ◌⊎◌, inl, inr, ⊥, ℕ, ◌+◌, ◌<◌, ◌≤◌, ◌==◌, if◌then◌else◌, arith, List, Option, Some, Ok, Err, length, drop, slice_get, refl, sym, ap, ◌∙◌, subst}
+use Rattle.std.proofs.Common.{◌≡◌, ◌⊎◌, inl, inr, ℕ, ◌+◌, ◌<◌, ◌≤◌, ◌==◌, if◌then◌else◌, arith, List, Option, Some, Ok, Err, length, drop, slice_get, refl, sym, ap, ◌∙◌, subst}
 use Rattle.rt_pieces.specs.declared.item.Item.{Item}
 use Rattle.rt_pieces.specs.declared.fault.TextFault.{TextFault}
 use Rattle.rt_items.specs.Lets.{Reading, Items, HaveOneReading}

@@ -1,5 +1,5 @@
 -- A text has one fault.
-use Rattle.std.specs.Prelude.{⊥, ℕ, List}
+use Rattle.std.specs.Prelude.{ℕ, List}
 use Rattle.rt_grammar.specs.declared.at.At.{At}
 use Rattle.rt_check_faults.specs.declared.fault.CheckFault.{CheckFault}
 use Rattle.rt_check_faults.specs.declared.fault.CheckFault.TheVariants as check

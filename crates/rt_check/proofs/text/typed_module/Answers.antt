@@ -20,12 +20,12 @@ returns-in_err-source-clause-only c = λ t small is.
     let s = is.is_source in
     let same = same_items c.in_ok-read.read s.items (c.in_ok-read.ensures.only (Ok s.items) s.read) in
     no_module t c.from_residual-in_err-source.result p.0 c.in_err-source.field-0.0 is.source p.1 p.2
-    (c.in_err-source.ensures.only is.source (subst (λ (xs : List Item). Derives xs is.source) (sym (c.as_slice.ensures ∙ same)) s.derived))
+    (c.in_err-source.ensures.only is.source (subst (λ (xs : List Item). Derives xs is.source) (sym (c.as_slice-list.ensures ∙ same)) s.derived))
 
 pub returns-in_err-source-clause-fault : goal.returns-in_err-source-clause-fault
 returns-in_err-source-clause-fault c = λ small.
     let p = err_from_is_err_and c.from_residual-in_err-source.result c.from_residual-in_err-source.ensures.1 in
-    let same = c.as_slice.ensures in
+    let same = c.as_slice-list.ensures in
     no_source c.args.text.now c.in_ok-read.read c.from_residual-in_err-source.result p.0 c.in_err-source.field-0.0 c.in_ok-read.ensures.found p.1 p.2
     (subst (λ (xs : List Item). Unfit module_of xs 0 c.in_err-source.field-0.0) same c.in_err-source.ensures.refused)
     (λ m d. c.in_err-source.ensures.only m (subst (λ (xs : List Item). Derives xs m) (sym same) d))
@@ -36,9 +36,9 @@ returns-in_err-checked-clause-only c = λ t small is.
     let s = is.is_source in
     let m = c.in_ok-source.source in
     let same = same_items c.in_ok-read.read s.items (c.in_ok-read.ensures.only (Ok s.items) s.read) in
-    let found = c.in_ok-source.ensures.only is.source (subst (λ (xs : List Item). Derives xs is.source) (sym (c.as_slice.ensures ∙ same)) s.derived) in
+    let found = c.in_ok-source.ensures.only is.source (subst (λ (xs : List Item). Derives xs is.source) (sym (c.as_slice-list.ensures ∙ same)) s.derived) in
     let typed = typed_as m is.source t found is.typed in
-    let derived = subst (λ (xs : List Item). Derives xs m) c.as_slice.ensures c.in_ok-source.ensures.found in
+    let derived = subst (λ (xs : List Item). Derives xs m) c.as_slice-list.ensures c.in_ok-source.ensures.found in
     no_tree t (tree m) c.from_residual-in_err-checked.result p.0 c.in_err-checked.field-0.0 p.1 p.2
     (c.in_err-checked.ensures.only (is_derived c.args.text.now small c.in_ok-read.read c.in_ok-read.ensures.found c.in_ok-read.ensures.limit m derived) typed.fit)
 
@@ -46,7 +46,7 @@ pub returns-in_err-checked-clause-fault : goal.returns-in_err-checked-clause-fau
 returns-in_err-checked-clause-fault c = λ small.
     let p = err_from_is_err_and c.from_residual-in_err-checked.result c.from_residual-in_err-checked.ensures.1 in
     let m = c.in_ok-source.source in
-    let derived = subst (λ (xs : List Item). Derives xs m) c.as_slice.ensures c.in_ok-source.ensures.found in
+    let derived = subst (λ (xs : List Item). Derives xs m) c.as_slice-list.ensures c.in_ok-source.ensures.found in
     unfit c.args.text.now m c.from_residual-in_err-checked.result p.0 c.in_err-checked.field-0.0
     (a_source c.args.text.now small c.in_ok-read.read c.in_ok-read.ensures.found c.in_ok-read.ensures.limit m derived) p.1 p.2
     (c.in_err-checked.ensures.fault (is_derived c.args.text.now small c.in_ok-read.read c.in_ok-read.ensures.found c.in_ok-read.ensures.limit m derived))
@@ -54,7 +54,7 @@ returns-in_err-checked-clause-fault c = λ small.
 pub returns-clause-tree : goal.returns-clause-tree
 returns-clause-tree c = λ small.
     let m = c.in_ok-source.source in
-    let derived = subst (λ (xs : List Item). Derives xs m) c.as_slice.ensures c.in_ok-source.ensures.found in
+    let derived = subst (λ (xs : List Item). Derives xs m) c.as_slice-list.ensures c.in_ok-source.ensures.found in
     record {
       source = m;
       is_source = a_source c.args.text.now small c.in_ok-read.read c.in_ok-read.ensures.found c.in_ok-read.ensures.limit m derived;
@@ -64,7 +64,7 @@ returns-clause-tree c = λ small.
 pub returns-clause-within : goal.returns-clause-within
 returns-clause-within c = λ small.
     let m = c.in_ok-source.source in
-    let derived = subst (λ (xs : List Item). Derives xs m) c.as_slice.ensures c.in_ok-source.ensures.found in
+    let derived = subst (λ (xs : List Item). Derives xs m) c.as_slice-list.ensures c.in_ok-source.ensures.found in
     c.in_ok-checked.ensures.within (is_derived c.args.text.now small c.in_ok-read.read c.in_ok-read.ensures.found c.in_ok-read.ensures.limit m derived)
 
 pub returns-clause-only : goal.returns-clause-only
@@ -72,8 +72,8 @@ returns-clause-only c = λ t small is.
     let s = is.is_source in
     let m = c.in_ok-source.source in
     let same = same_items c.in_ok-read.read s.items (c.in_ok-read.ensures.only (Ok s.items) s.read) in
-    let found = c.in_ok-source.ensures.only is.source (subst (λ (xs : List Item). Derives xs is.source) (sym (c.as_slice.ensures ∙ same)) s.derived) in
+    let found = c.in_ok-source.ensures.only is.source (subst (λ (xs : List Item). Derives xs is.source) (sym (c.as_slice-list.ensures ∙ same)) s.derived) in
     let typed = typed_as m is.source t found is.typed in
-    let derived = subst (λ (xs : List Item). Derives xs m) c.as_slice.ensures c.in_ok-source.ensures.found in
+    let derived = subst (λ (xs : List Item). Derives xs m) c.as_slice-list.ensures c.in_ok-source.ensures.found in
     a_tree t (tree m) c.in_ok-checked.field-0 typed.is
     (c.in_ok-checked.ensures.only (is_derived c.args.text.now small c.in_ok-read.read c.in_ok-read.ensures.found c.in_ok-read.ensures.limit m derived) typed.fit)
