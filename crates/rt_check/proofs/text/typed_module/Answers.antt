@@ -4,7 +4,9 @@ use Rattle.rt_bricks.specs.Derives.{Derives}
 use Rattle.rt_bricks.specs.Modules.{module_of}
 use Rattle.rt_syntax.specs.Derives.{Refuses as Unfit}
 use Rattle.rt_pieces.specs.declared.item.Item.{Item}
+use Rattle.rt_check_faults.specs.Outcomes.{UnlessMemory}
 use Rattle.rt_check_module.specs.Tree.{tree}
+use Rattle.rt_check.specs.Texts.{IsTold}
 use Rattle.rt_check.proofs.Texts.{same_items, no_items, no_module, no_source, a_source, is_derived, typed_as, no_tree, a_tree, unfit}
 use Rattle.rt_check.proofs.text.typed_module.Goals as goal
 
@@ -49,7 +51,8 @@ returns-in_err-checked-clause-fault c = λ small.
     let derived = subst (λ (xs : List Item). Derives xs m) c.as_slice-list.ensures c.in_ok-source.ensures.found in
     unfit c.args.text.now m c.from_residual-in_err-checked.result p.0 c.in_err-checked.field-0.0
     (a_source c.args.text.now small c.in_ok-read.read c.in_ok-read.ensures.found c.in_ok-read.ensures.limit m derived) p.1 p.2
-    (c.in_err-checked.ensures.fault (is_derived c.args.text.now small c.in_ok-read.read c.in_ok-read.ensures.found c.in_ok-read.ensures.limit m derived))
+    (subst (λ (xs : List Item). UnlessMemory c.in_err-checked.field-0.0 (IsTold xs m c.in_err-checked.field-0.0)) c.as_slice-list.ensures
+    (c.in_err-checked.ensures.fault (is_derived c.args.text.now small c.in_ok-read.read c.in_ok-read.ensures.found c.in_ok-read.ensures.limit m derived)))
 
 pub returns-clause-tree : goal.returns-clause-tree
 returns-clause-tree c = λ small.
