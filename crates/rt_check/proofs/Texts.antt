@@ -66,7 +66,7 @@ no_source bytes items r y f read is from h only = subst (λ (x : Answer). IfErr 
   told (syntax.Syntax line) h only = record { items = items; read = read; none = only; refused = h }
 
 module _ (bytes : List ℕ) (small : AllByRecursion IsByte bytes) (items : List Item) (read : Items bytes (Ok items)) (few : length items ≤ 65535) (m : Module) (derived : Derives items m) where
-  pub a_source : IsSource bytes m
+  abbrev pub a_source : IsSource bytes m
   a_source = record { items = items; read = read; derived = derived }
 
   pub is_derived : IsDerived m
