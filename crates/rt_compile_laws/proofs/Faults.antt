@@ -46,14 +46,14 @@ module _ {A : Type 0} (part : Context → Part A) (items : List Item) (at : ℕ)
     by (inr (inr less)) = absurd (not_before m n k h less)
 
   one_line : (l m : ℕ) → IsRefusedAt part items at l → IsRefusedAt part items at m → l ≡ m
-  one_line l m (inl h) (inl k) = same_lines (same_place h.0 k.0 h.2.0 k.2.0) where
+  one_line l m (inl h) (inl k) = same_lines (same_place h.0 k.0 h.2 k.2) where
     same_lines : h.0 ≡ k.0 → l ≡ m
     same_lines e =
-        let some : Option.Some h.1 ≡ Option.Some k.1 = sym h.2.1 ∙ ap (slice_get items) e ∙ k.2.1 in
+        let some : Option.Some h.1 ≡ Option.Some k.1 = sym h.3 ∙ ap (slice_get items) e ∙ k.3 in
         let item : h.1 ≡ k.1 = cc in
-        h.2.2 ∙ ap (λ (i : Item). i.line) item ∙ sym k.2.2
-  one_line l m (inl h) (inr k) = absurd (none_sooner h.0 0 h.2.0 (k.0 (h.0 + 1) (omega (arith, h.2.0.from)) (omega (arith, h.2.0.there))))
-  one_line l m (inr h) (inl k) = absurd (none_sooner k.0 0 k.2.0 (h.0 (k.0 + 1) (omega (arith, k.2.0.from)) (omega (arith, k.2.0.there))))
+        h.4 ∙ ap (λ (i : Item). i.line) item ∙ sym k.4
+  one_line l m (inl h) (inr k) = absurd (none_sooner h.0 0 h.2 (k.0 (h.0 + 1) (omega (arith, h.2.from)) (omega (arith, h.2.there))))
+  one_line l m (inr h) (inl k) = absurd (none_sooner k.0 0 k.2 (h.0 (k.0 + 1) (omega (arith, k.2.from)) (omega (arith, k.2.there))))
   one_line l m (inr h) (inr k) = h.1 ∙ sym k.1
 
 -- ---- the fault of one item and one number
