@@ -1,0 +1,14 @@
+pub mod Pieces
+pub mod DecimalReads
+pub mod LineReads
+pub mod FaultReads
+pub mod TextLines
+pub mod Drafts
+pub mod WholeReads
+pub mod ReportReads
+pub mod Readings
+pub mod Placed
+pub mod Written
+pub mod OneAnswer
+pub mod SomeAnswer
+pub mod SystemNames
