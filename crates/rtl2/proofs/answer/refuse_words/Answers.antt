@@ -5,6 +5,6 @@ use Rattle.rtl2.proofs.answer.refuse_words.Goals as goal
 
 pub returns : goal.returns
 returns g c = λ store left faults. record {
-  tells = subst (λ n. Tells words_line 10 (outside store.files store.writes (g.O.Sink.written c.args.output.now) (g.O.Sink.faults c.args.output.now)) (outside store.files store.writes (g.O.Sink.written c.tell.new.output) (g.O.Sink.faults c.tell.new.output)) n) (sym c.explained.ensures) (c.tell.ensures store.files store.writes);
+  tells = subst (λ n. Tells words_line 10 (outside store.files store.writes (g.O.Sink.written c.args.output.now) (g.O.Sink.faults c.args.output.now)) (outside store.files store.writes (g.O.Sink.written c.tell-status.new.output) (g.O.Sink.faults c.tell-status.new.output)) n) (sym c.explained.ensures) (c.tell-status.ensures store.files store.writes);
   input = record { left = refl; faults = refl };
 }
