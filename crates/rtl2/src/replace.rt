@@ -1,6 +1,7 @@
 //! A file is replaced: its bytes go into a fresh file beside it, which takes its name once they are all out.
 
-ghost use Rattle.std.specs.Prelude.{◌≡◌, ◌≤◌, ◌++◌, codes, IfSome, IsErr};
+ghost use Rattle.std.specs.Io.KnownBytes.{Appends};
+ghost use Rattle.std.specs.Prelude.{◌≡◌, ◌≤◌, ◌++◌, codes, IfOk, IfSome, IsErr};
 ghost use Rattle.rt_words.specs.Causes.{Rose};
 
 use crate::errors::ErrorCount;
@@ -91,7 +92,7 @@ fn replace<R: Files>(
     let Ok(file) = File::create_new(rt, fresh) else {
         return write_in_place(rt, name, bytes, count);
     };
-    if let Err(failed) = fill(file, bytes, count) {
+    if let Err(failed) = written_out(file, bytes, count) {
         let _ = rt.remove_file(fresh);
         return Err(failed);
     }
@@ -103,17 +104,18 @@ fn replace<R: Files>(
     write_in_place(rt, name, bytes, count)
 }
 
-// Writes all bytes, down to the device.
-fn fill<F: Write + OpenFile + Drop>(
+/// Writes all of these bytes into an opened file, down to the device, and answers the file.
+pub fn written_out<F: Write + OpenFile + Drop>(
     file: F,
     bytes: &[u8],
     count: &mut ErrorCount,
-) -> Result<(), Failed>
+) -> Result<F, Failed>
+    ensures bytes { IfOk result (λ written. Appends (F.contents file) (F.contents written) bytes.now) }
     ensures failed { IsErr result → Rose count.old.errors count.new.errors }
     ensures later { count.old.errors ≤ count.new.errors }
 {
     match write_opened(Ok(file), bytes, count) {
-        Ok(written) if written.sync_all().is_ok() => Ok(()),
+        Ok(written) if written.sync_all().is_ok() => Ok(written),
         Ok(_) => {
             count.rise();
             Err(Failed)
