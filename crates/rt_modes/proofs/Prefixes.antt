@@ -3,6 +3,7 @@ use Rattle.std.proofs.Common.{◌≡◌, ℕ, zero, suc, ◌+◌, ◌<◌, ◌�
 use Rattle.std.specs.List.{slice_get, list_any, IsDistinct, AllByRecursion}
 use Rattle.std.proofs.lemmas.List.{append-nil, length-append, take-append-le}
 use Rattle.std.proofs.lemmas.Bool.{eqb-true}
+use Rattle.std.proofs.lemmas.Bool.Decides.{nat_tests}
 use Rattle.std.proofs.lemmas.Map.Keys.{IsDistinct-cons, IsDistinct-head, IsDistinct-tail}
 use Rattle.std.proofs.lemmas.Map.Steps.{length-le_from_distinct_below}
 use Rattle.rt_modes.specs.FullMode.{with_one, with_new}
@@ -74,23 +75,26 @@ apart : (k x : ℕ) (ks : List ℕ) → eqb x k ≡ false → AllByRecursion (λ
 apart k x [] e h = (e, tt)
 apart k x (y ∷ ks) e h = (h.0, apart k x ks e h.1)
 
+turned : (k x : ℕ) → eqb k x ≡ false → eqb x k ≡ false
+turned k x e = grind (arith, nat_tests)
+
 -- a number that is not among them is put behind them
-once_more : (k : ℕ) (ks : List ℕ) → list_any (λ x. eqb x k) ks ≡ false → IsDistinct eqb ks → IsDistinct eqb (ks ++ k ∷ [])
+once_more : (k : ℕ) (ks : List ℕ) → list_any (eqb k) ks ≡ false → IsDistinct eqb ks → IsDistinct eqb (ks ++ k ∷ [])
 once_more k [] e h = IsDistinct-cons eqb k [] tt h
-once_more k (x ∷ ks) e h = let f = neither_of (eqb x k) (list_any (λ x. eqb x k) ks) e in
-    IsDistinct-cons eqb x (ks ++ k ∷ []) (apart k x ks f.0 (IsDistinct-head eqb x ks h)) (once_more k ks f.1 (IsDistinct-tail eqb x ks h))
+once_more k (x ∷ ks) e h = let f = neither_of (eqb k x) (list_any (eqb k) ks) e in
+    IsDistinct-cons eqb x (ks ++ k ∷ []) (apart k x ks (turned k x f.0) (IsDistinct-head eqb x ks h)) (once_more k ks f.1 (IsDistinct-tail eqb x ks h))
 
 below_more : (n k : ℕ) (ks : List ℕ) → k < n → AllByRecursion (λ k. k < n) ks → AllByRecursion (λ k. k < n) (ks ++ k ∷ [])
 below_more n k [] e h = (e, tt)
 below_more n k (x ∷ ks) e h = (h.0, below_more n k ks e h.1)
 
 begins_with_one : (ks : List ℕ) (k : ℕ) → Begins ks (with_one ks k)
-begins_with_one ks k = elim (list_any (λ x. eqb x k) ks) as (λ b. Begins ks (if b then ks else ks ++ k ∷ [])) [ true ↦ begins_itself ks | false ↦ record { rest = k ∷ []; is = refl } ]
+begins_with_one ks k = elim (list_any (eqb k) ks) as (λ b. Begins ks (if b then ks else ks ++ k ∷ [])) [ true ↦ begins_itself ks | false ↦ record { rest = k ∷ []; is = refl } ]
 
 once_with_one : (n : ℕ) (ks : List ℕ) (k : ℕ) → k < n → OnceBelow n ks → OnceBelow n (with_one ks k)
-once_with_one n ks k h o = by (list_any (λ x. eqb x k) ks) refl
+once_with_one n ks k h o = by (list_any (eqb k) ks) refl
   where
-    by : (b : Bool) → list_any (λ x. eqb x k) ks ≡ b → OnceBelow n (if b then ks else ks ++ k ∷ [])
+    by : (b : Bool) → list_any (eqb k) ks ≡ b → OnceBelow n (if b then ks else ks ++ k ∷ [])
     by true e = o
     by false e = record { once = once_more k ks e o.once; below = below_more n k ks h o.below }
 

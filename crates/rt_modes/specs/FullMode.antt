@@ -90,7 +90,7 @@ mentioned t (Mentions k ∷ ws) = if nat_lt k (length t.records) then k ∷ ment
 
 -- the numbers known, and one more, where it is not among them
 abbrev pub with_one : List ℕ → ℕ → List ℕ
-with_one known k = if list_any (λ x. x == k) known then known else known ++ k ∷ []
+with_one known k = if list_any (λ x. k == x) known then known else known ++ k ∷ []
 
 -- the numbers known, and those of a list that are new, each once, in the order of the list
 abbrev pub with_new : List ℕ → List ℕ → List ℕ

@@ -51,7 +51,7 @@ words_left t order place ws = ws ++ defined_from t (2 ^ 64 + length t.records - 
 
 -- the words left, where these stand before all others
 abbrev pub begun : Pieces → List Word → List Word
-begun p ws = words_left p.table.now p.order p.place (ws ++ stacked p.todo)
+begun p ws = words_left p.table.now p.order.keys p.place (ws ++ stacked p.todo)
 
 abbrev pub left : Pieces → List Word
 left p = begun p []
@@ -60,7 +60,7 @@ left p = begun p []
 pub record IsEmpty (p : Pieces) (t : ModeTable) : Type 0 where
   pub table : p.table.now ≡ t
   pub todo : p.todo ≡ []
-  pub order : p.order ≡ []
+  pub order : p.order.keys ≡ []
   pub place : p.place ≡ 0
 
 -- one word was taken from those that were left, and its bytes were appended

@@ -2,10 +2,11 @@
 //! come is known by the modes on the way to it and by the records mentioned so far.
 
 ghost use Rattle.std.specs.Prelude.{◌≡◌, ◌+◌, ◌<◌, ◌^◌, [], ◌∷◌, ◌++◌, length, codes, decimal, IfOk, OnOk, OnSome, slice_get, MatchBool};
-ghost use Rattle.rt_modes.specs.FullMode.{full_text, Mentions, mode_words, name_of, fields_of, spelled, fields_inside};
+ghost use Rattle.rt_modes.specs.FullMode.{full_text, Mentions, mode_words, name_of, fields_of, spelled, fields_inside, with_one};
 ghost use Rattle.rt_modes.specs.Left.{todo_words, IsEmpty, lead, text_of, begun, left, parameters_inside, parameters_after, fields_after, Puts};
 
 use crate::mode::{Field, Mode, ModeTable};
+use indexmap::IndexSet;
 use itoa::Buffer;
 use rt_words::{Boxed, List, Memory, Name};
 use std::alloc::Global;
@@ -33,7 +34,7 @@ pub struct Pieces<'t> {
     /// The parts that are still to come, the next last.
     todo: List<Todo<'t>>,
     /// The numbers of the records mentioned so far, in the order of their first mention.
-    order: List<u16>,
+    order: IndexSet<u16>,
     /// How many of these have been written behind WHERE.
     place: usize,
 }
@@ -46,7 +47,7 @@ impl<'t> Pieces<'t> {
         Ok(Pieces {
             table,
             todo: List::new(alloc, 0)?,
-            order: List::new(alloc, 0)?,
+            order: IndexSet::new(alloc),
             place: 0,
         })
     }
@@ -122,9 +123,7 @@ impl<'t> Pieces<'t> {
             Some(record) => record,
             None => return Ok(()),
         };
-        if !self.order.as_slice().contains(&number) {
-            self.order.push(number)?;
-        }
+        know(&mut self.order, number)?;
         piece.extend_from_slice(record.name.as_slice())?;
         Ok(())
     }
@@ -199,7 +198,7 @@ impl<'t> Pieces<'t> {
 
     /// The number of the record whose definition comes next.
     fn next_record(&self) -> Option<u16>
-        ensures value { result ≡ slice_get self.now.order self.now.place }
+        ensures value { result ≡ slice_get self.now.order.keys self.now.place }
         ensures within { OnSome result (self.now.place + 1 < 2 ^ 64) }
     {
         self.order.as_slice().get(self.place).copied()
@@ -220,6 +219,16 @@ impl<'t> Pieces<'t> {
         self.place += 1;
         self.push_fields(fields)?;
         Ok(true)
+    }
+}
+
+/// One more record is known, unless it is already.
+fn know(order: &mut IndexSet<u16>, number: u16) -> Result<(), Memory>
+    ensures { OnOk result (order.new.keys ≡ with_one order.old.keys number) }
+{
+    match order.insert(number) {
+        Ok(_) => Ok(()),
+        Err(_) => Err(Memory),
     }
 }
 

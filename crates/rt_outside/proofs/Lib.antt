@@ -1,4 +1,3 @@
-pub mod Appended
 pub mod Kept
 pub mod Puts
 pub mod Stretches

@@ -1,7 +1,9 @@
-ghost use Rattle.std.specs.Prelude.{◌≡◌, ◌≤◌, ◌-◌, ◌==◌, ◌||◌, [], ◌∷◌, ◌++◌, Some, if◌then◌else◌, IfOk, OnOk, OnErr, IsErr, is_ok};
+ghost use Rattle.std.specs.Prelude.{◌≡◌, ◌≤◌, [], ◌∷◌, ◌++◌, Some, IfOk, OnOk, OnErr, IsErr};
 ghost use Rattle.std.specs.Result.{is_err};
 ghost use Rattle.rt_words.specs.Causes.{Rose};
-ghost use Rattle.rt_outside.specs.Calls.{no_calls, next_fails, after_call};
+ghost use Rattle.rt_outside.specs.Calls.{no_calls};
+ghost use Rattle.rt_outside.specs.Appending.{AppendsStart};
+ghost use Rattle.rt_outside.specs.States.{put_fails, after_put, puts_fail, after_puts};
 
 use crate::calls::CallCount;
 use crate::sink::{Failed, Sink};
@@ -73,6 +75,43 @@ impl MemSink {
     }
 }
 
+impl MemSink {
+    fn put_byte(&mut self, byte: u8) -> Result<(), Failed>
+        ensures ok { OnOk result (self.new.written ≡ self.old.written ++ byte ∷ []) }
+        ensures err { OnErr result (self.new.written ≡ self.old.written) }
+        ensures failed { IsErr result → Rose self.old.calls.faults self.new.calls.faults }
+        ensures later { self.old.calls.faults ≤ self.new.calls.faults }
+        ensures fails { is_err result ≡ put_fails self.old }
+        ensures state { self.new ≡ after_put byte self.old }
+    {
+        let fails = self.calls.begin();
+        if fails || self.room == 0 {
+            self.calls.fail();
+            return Err(Failed);
+        }
+        self.written.push(byte).unwrap();
+        self.room -= 1;
+        Ok(())
+    }
+
+    fn put_bytes(&mut self, bytes: &[u8]) -> Result<(), Failed>
+        ensures ok { OnOk result (self.new.written ≡ self.old.written ++ bytes.now) }
+        ensures err { OnErr result (AppendsStart (Some self.old.written) (Some self.new.written) bytes.now) }
+        ensures failed { IsErr result → Rose self.old.calls.faults self.new.calls.faults }
+        ensures later { self.old.calls.faults ≤ self.new.calls.faults }
+        ensures fails { is_err result ≡ puts_fail bytes.now self.old }
+        ensures state { self.new ≡ after_puts bytes.now self.old }
+    {
+        for byte in bytes {
+            match self.put_byte(*byte) {
+                Ok(()) => {}
+                Err(failed) => return Err(failed),
+            }
+        }
+        Ok(())
+    }
+}
+
 impl Sink for MemSink {
     ghost written = { λ s. Some s.written };
 
@@ -83,17 +122,20 @@ impl Sink for MemSink {
         ensures err { OnErr result (self.new.written ≡ self.old.written) }
         ensures failed { IsErr result → Rose self.old.calls.faults self.new.calls.faults }
         ensures later { self.old.calls.faults ≤ self.new.calls.faults }
-        ensures fails { is_err result ≡ (next_fails self.old.calls || (self.old.room == 0)) }
-        ensures room { self.new.room ≡ (if is_ok result then self.old.room - 1 else self.old.room) }
-        ensures calls { self.new.calls ≡ after_call (is_err result) self.old.calls }
+        ensures fails { is_err result ≡ put_fails self.old }
+        ensures state { self.new ≡ after_put byte self.old }
     {
-        let fails = self.calls.begin();
-        if fails || self.room == 0 {
-            self.calls.fail();
-            return Err(Failed);
-        }
-        self.written.push(byte).unwrap();
-        self.room -= 1;
-        Ok(())
+        self.put_byte(byte)
+    }
+
+    fn put_all(&mut self, bytes: &[u8]) -> Result<(), Failed>
+        ensures ok { OnOk result (self.new.written ≡ self.old.written ++ bytes.now) }
+        ensures err { OnErr result (AppendsStart (Some self.old.written) (Some self.new.written) bytes.now) }
+        ensures failed { IsErr result → Rose self.old.calls.faults self.new.calls.faults }
+        ensures later { self.old.calls.faults ≤ self.new.calls.faults }
+        ensures fails { is_err result ≡ puts_fail bytes.now self.old }
+        ensures state { self.new ≡ after_puts bytes.now self.old }
+    {
+        self.put_bytes(bytes)
     }
 }

@@ -5,7 +5,6 @@ ghost use Rattle.rt_outside.specs.Deeds.{deed_of, deeds_of, IsDone, HasFailed, P
 ghost use Rattle.std.specs.Prelude.{OnOk, OnErr};
 
 use crate::deed::Deed;
-use crate::put::put_all;
 use crate::sink::{Failed, Sink};
 use crate::store::Store;
 
@@ -24,7 +23,7 @@ fn perform_one<S: Store, O: Sink>(
 {
     match deed {
         Deed::Write { name, bytes } => store.write(name, bytes.as_slice()),
-        Deed::Put(bytes) => put_all(output, bytes.as_slice()),
+        Deed::Put(bytes) => output.put_all(bytes.as_slice()),
     }
 }
 

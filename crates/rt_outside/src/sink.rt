@@ -1,6 +1,7 @@
 ghost use Rattle.std.specs.Prelude.{◌≡◌, ◌≤◌, ℕ, [], ◌∷◌, List, Option, OnOk, OnErr, IsErr};
 ghost use Rattle.std.specs.Io.KnownBytes.{Keeps, Appends};
 ghost use Rattle.rt_words.specs.Causes.{Rose};
+ghost use Rattle.rt_outside.specs.Appending.{AppendsStart};
 
 use thiserror::Error;
 
@@ -9,7 +10,7 @@ use thiserror::Error;
 #[error("the write failed")]
 pub struct Failed;
 
-/// Bytes that go out one by one.
+/// Bytes that go out one by one, or many at once.
 ///
 /// A sink may tell the bytes written. It has a count of faults, which never falls.
 pub trait Sink {
@@ -22,6 +23,13 @@ pub trait Sink {
     fn put(&mut self, byte: u8) -> Result<(), Failed>
         ensures ok { OnOk result (Appends (written self.old) (written self.new) (byte ∷ [])) }
         ensures err { OnErr result (Keeps (written self.old) (written self.new)) }
+        ensures failed { IsErr result → Rose (faults self.old) (faults self.new) }
+        ensures later { faults self.old ≤ faults self.new };
+
+    /// Puts all the bytes; where that fails a proper start of them was put.
+    fn put_all(&mut self, bytes: &[u8]) -> Result<(), Failed>
+        ensures ok { OnOk result (Appends (written self.old) (written self.new) bytes.now) }
+        ensures err { OnErr result (AppendsStart (written self.old) (written self.new) bytes.now) }
         ensures failed { IsErr result → Rose (faults self.old) (faults self.new) }
         ensures later { faults self.old ≤ faults self.new };
 }

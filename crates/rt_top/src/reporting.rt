@@ -9,7 +9,7 @@ ghost use Rattle.rt_accept.specs.FileEnds.{Complains, Declines};
 
 use crate::linking::Made;
 use rt_accept::Unaccepted;
-use rt_outside::{Deed, Sink, Store, perform, put_all};
+use rt_outside::{Deed, Sink, Store, perform};
 use rt_report::{FaultLine, fault_line, fault_status, refusal_report};
 use rt_words::{Bytes, Text};
 use std::alloc::Global;
@@ -86,7 +86,7 @@ pub fn write_report<S: Store, O: Sink>(
 pub fn tell<O: Sink>(output: &mut O, text: &[u8], status: u8) -> u8
     ensures { (files : Option Files) (writes : List ℕ → ℕ) → Tells text.now status (outside files writes (O.written output.old) (O.faults output.old)) (outside files writes (O.written output.new) (O.faults output.new)) result }
 {
-    match put_all(output, text) {
+    match output.put_all(text) {
         Ok(()) => status,
         Err(_) => UNWRITTEN,
     }

@@ -17,7 +17,7 @@ returns-in_ok-go_on_with_fields-in-Some-Fields-clause-piece c =
 pub returns-in_ok-extend_from_slice-in-Some-Name-2-clause-piece : goal.returns-in_ok-extend_from_slice-in-Some-Name-2-clause-piece
 returns-in_ok-extend_from_slice-in-Some-Name-2-clause-piece c =
     rw (one_more _ _ _ c.in-Some-Name.ensures, c.in-Some-Name.field-0-is)
-    (says _ c.args.self.now.order c.args.self.now.place _ (stacked c.pop.new.self) _ _ _ refl (rw (c.in_ok-extend_from_slice-in-Some-Name-2.ensures.items, c.in_ok-extend_from_slice-in-Some-Name.ensures.items, c.as_slice.ensures.bytes) (simp append_assoc)))
+    (says _ c.args.self.now.order.keys c.args.self.now.place _ (stacked c.pop.new.self) _ _ _ refl (rw (c.in_ok-extend_from_slice-in-Some-Name-2.ensures.items, c.in_ok-extend_from_slice-in-Some-Name.ensures.items, c.as_slice.ensures.bytes) (simp append_assoc)))
 
 pub returns-in_ok-push_fields-in-Some-Data-clause-piece : goal.returns-in_ok-push_fields-in-Some-Data-clause-piece
 returns-in_ok-push_fields-in-Some-Data-clause-piece c =
