@@ -52,23 +52,23 @@ at_end : (k : ℕ) (xs : List ℕ) → In k (xs ++ k ∷ [])
 at_end k [] = inl refl
 at_end k (x ∷ xs) = inr (at_end k xs)
 
-first_or : (b : Bool) (x k : ℕ) (xs : List ℕ) → (x == k) ≡ b → (list_any (λ x. x == k) xs ≡ true → In k xs) → b || list_any (λ x. x == k) xs ≡ true → In k (x ∷ xs)
+first_or : (b : Bool) (x k : ℕ) (xs : List ℕ) → (k == x) ≡ b → (list_any (λ x. k == x) xs ≡ true → In k xs) → b || list_any (λ x. k == x) xs ≡ true → In k (x ∷ xs)
 first_or true x k xs p go h = inl (grind (arith, nat_tests))
 first_or false x k xs p go h = inr (go h)
 
-any_in : (k : ℕ) (xs : List ℕ) → list_any (λ x. x == k) xs ≡ true → In k xs
+any_in : (k : ℕ) (xs : List ℕ) → list_any (λ x. k == x) xs ≡ true → In k xs
 any_in k [] e = absurd cc
-any_in k (x ∷ xs) e = first_or (x == k) x k xs refl (any_in k xs) e
+any_in k (x ∷ xs) e = first_or (k == x) x k xs refl (any_in k xs) e
 
 in_one_more : (k q : ℕ) (ks : List ℕ) → In k ks → In k (with_one ks q)
-in_one_more k q ks h = by_any (list_any (λ x. x == q) ks) where
+in_one_more k q ks h = by_any (list_any (λ x. q == x) ks) where
   by_any : (b : Bool) → In k (if b then ks else ks ++ q ∷ [])
   by_any true = h
   by_any false = in_front k ks (q ∷ []) h
 
 in_one : (k : ℕ) (ks : List ℕ) → In k (with_one ks k)
-in_one k ks = by_any (list_any (λ x. x == k) ks) refl where
-  by_any : (b : Bool) → list_any (λ x. x == k) ks ≡ b → In k (if b then ks else ks ++ k ∷ [])
+in_one k ks = by_any (list_any (λ x. k == x) ks) refl where
+  by_any : (b : Bool) → list_any (λ x. k == x) ks ≡ b → In k (if b then ks else ks ++ k ∷ [])
   by_any true e = any_in k ks e
   by_any false e = at_end k ks
 
@@ -273,9 +273,9 @@ module _ (t u : ModeTable) (gt : IsTable t) (gu : IsTable u) where
       by_tests true false e f = absurd (let bad : true ≡ false = sym (number_equal y j (names (equal_number x k e))) ∙ f in cc)
       by_tests false true e f = absurd (let bad : true ≡ false = sym (number_equal x k (back (equal_number y j f))) ∙ e in cc)
 
-    any_agrees : (xs ys : List ℕ) (k j : ℕ) → PairedLists xs ys → Paired k j → list_any (λ x. x == k) xs ≡ list_any (λ y. y == j) ys
+    any_agrees : (xs ys : List ℕ) (k j : ℕ) → PairedLists xs ys → Paired k j → list_any (λ x. k == x) xs ≡ list_any (λ y. j == y) ys
     any_agrees [] [] k j h q = refl
-    any_agrees (x ∷ xs) (y ∷ ys) k j h q = ap (λ (b : Bool). b || list_any (λ x. x == k) xs) (tests_agree x y k j h.0 q) ∙ ap (λ (b : Bool). (y == j) || b) (any_agrees xs ys k j h.1 q)
+    any_agrees (x ∷ xs) (y ∷ ys) k j h q = ap (λ (b : Bool). b || list_any (λ x. k == x) xs) (tests_agree k j x y q h.0) ∙ ap (λ (b : Bool). (j == y) || b) (any_agrees xs ys k j h.1 q)
     any_agrees [] (y ∷ ys) k j h q = absurd h
     any_agrees (x ∷ xs) [] k j h q = absurd h
 
@@ -286,7 +286,7 @@ module _ (t u : ModeTable) (gt : IsTable t) (gu : IsTable u) where
     paired_end (x ∷ xs) [] k j h q = absurd h
 
     paired_one : (xs ys : List ℕ) (k j : ℕ) → PairedLists xs ys → Paired k j → PairedLists (with_one xs k) (with_one ys j)
-    paired_one xs ys k j h q = by_any (list_any (λ x. x == k) xs) (list_any (λ y. y == j) ys) (any_agrees xs ys k j h q) where
+    paired_one xs ys k j h q = by_any (list_any (λ x. k == x) xs) (list_any (λ y. j == y) ys) (any_agrees xs ys k j h q) where
       by_any : (a b : Bool) → a ≡ b → PairedLists (if a then xs else xs ++ k ∷ []) (if b then ys else ys ++ j ∷ [])
       by_any true true e = h
       by_any false false e = paired_end xs ys k j h q
@@ -381,7 +381,7 @@ module _ (t u : ModeTable) (gt : IsTable t) (gu : IsTable u) where
   all_end P (x ∷ xs) k h p = (h.0, all_end P xs k h.1 p)
 
   all_one : (P : ℕ → Type 0) (xs : List ℕ) (k : ℕ) → AllByRecursion P xs → P k → AllByRecursion P (with_one xs k)
-  all_one P xs k h p = by_any (list_any (λ x. x == k) xs) where
+  all_one P xs k h p = by_any (list_any (λ x. k == x) xs) where
     by_any : (b : Bool) → AllByRecursion P (if b then xs else xs ++ k ∷ [])
     by_any true = h
     by_any false = all_end P xs k h p
