@@ -3,8 +3,8 @@ use Rattle.std.proofs.Common.{◌≡◌, ◌<◌, ◌≤◌, ℕ, List, [], ◌�
 use Rattle.rt_pieces.specs.declared.item.Item.{Item}
 use Rattle.rt_grammar.specs.Parsing.{left}
 use Rattle.rt_grammar.proofs.Good.{ok_is}
-use Rattle.rt_syntax.specs.Derives.{language_limits, in_list, line_left, IsRefusedAt}
-use Rattle.rt_syntax.proofs.Exact.{few_left, refused_by}
+use Rattle.rt_syntax.specs.Derives.{language_limits, in_list, line_left, IsRefusedBy, IsRefusedAt}
+use Rattle.rt_syntax.proofs.Exact.{few_left, refused_by, numbered}
 use Rattle.rt_bricks.specs.declared.tree.Module.{Module}
 use Rattle.rt_bricks.specs.Modules as line
 use Rattle.rt_bricks.specs.ModuleParser as reads
@@ -40,3 +40,6 @@ few items n is = few_left reads.module_of line.module_of _ _ _ good_module items
 
 pub refused : (items : List Item) (n : ℕ) → left (parsed items) ≡ n → IsRefusedAt line.module_of items 0 (line_left items n)
 refused items n is = refused_by reads.module_of line.module_of _ _ _ good_module items 0 n (omega arith) is
+
+pub refused_number : (items : List Item) (n : ℕ) → left (parsed items) ≡ n → IsRefusedBy line.module_of items 0 (length items - n)
+refused_number items n is = numbered reads.module_of line.module_of _ _ _ good_module items 0 n (omega arith) is

@@ -21,7 +21,8 @@ pub fn parse_module(alloc: Global, items: &[Item]) -> Result<Module, SyntaxFault
     ensures found { IfOk result (Derives items.now) }
     // What is derived is answered, unless memory runs out.
     ensures only { (it : Tree) → Derives items.now it → IsOrMemory it result }
-    // A fault has the line of the first item that is unfit; where none is, of the last item, or 1.
+    // A fault has the number and the line of the first item that is unfit; where none is, how many items there are, and
+    // the line of the last one, or 1.
     ensures refused { IfErr result (Refuses line.module_of items.now 0) }
 {
     let context = Context {
@@ -31,10 +32,12 @@ pub fn parse_module(alloc: Global, items: &[Item]) -> Result<Module, SyntaxFault
     match module_of(alloc, context, items) {
         Ok((found, [])) => Ok(found),
         Ok((_, rest)) => Err(SyntaxFault::Syntax {
+            item: items.len() - rest.len(),
             line: line_left(items, rest.len()),
         }),
         Err(Stop::Memory) => Err(SyntaxFault::Memory),
         Err(Stop::Unfit(left)) => Err(SyntaxFault::Syntax {
+            item: items.len() - left,
             line: line_left(items, left),
         }),
     }

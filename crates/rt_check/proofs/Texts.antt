@@ -57,13 +57,13 @@ no_items t r y f xs is from (inr e) = absurd cc
 
 pub no_module : (t : ModuleParts) (r : Answer) (y : ModuleFault) (f : SyntaxFault) (m : Module) → r ≡ Err y → y ≡ of_syntax f → IsOrMemory m (Err f) → IsAnswered t r
 no_module t r y syntax.Memory m is from h = inr (is ∙ ap refused from)
-no_module t r y (syntax.Syntax line) m is from h = absurd h
+no_module t r y (syntax.Syntax item line) m is from h = absurd h
 
 pub no_source : (bytes : List ℕ) (items : List Item) (r : Answer) (y : ModuleFault) (f : SyntaxFault) → Items bytes (Ok items) → r ≡ Err y → y ≡ of_syntax f → Unfit module_of items 0 f → ((m : Module) → Derives items m → IsOrMemory m (Err f)) → IfErr r (IsFaultOf bytes)
 no_source bytes items r y f read is from h only = subst (λ (x : Answer). IfErr x (IsFaultOf bytes)) (sym (is ∙ ap refused from)) (told f h only) where
   told : (f : SyntaxFault) → Unfit module_of items 0 f → ((m : Module) → Derives items m → IsOrMemory m (Err f)) → IsFaultOf bytes (of_syntax f)
   told syntax.Memory h only = tt
-  told (syntax.Syntax line) h only = record { items = items; read = read; none = only; refused = h }
+  told (syntax.Syntax item line) h only = record { items = items; read = read; none = only; refused = h.1 }
 
 module _ (bytes : List ℕ) (small : AllByRecursion IsByte bytes) (items : List Item) (read : Items bytes (Ok items)) (few : length items ≤ 65535) (m : Module) (derived : Derives items m) where
   abbrev pub a_source : IsSource bytes m

@@ -15,7 +15,7 @@ of_text f = Text f
 
 abbrev pub of_syntax : SyntaxFault → ModuleFault
 of_syntax syntax.Memory = Memory
-of_syntax (syntax.Syntax line) = Syntax line
+of_syntax (syntax.Syntax item line) = Syntax line
 
 abbrev pub of_check : CheckFault → ModuleFault
 of_check check.Memory = Memory

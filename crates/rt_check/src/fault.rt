@@ -44,7 +44,7 @@ impl From<SyntaxFault> for ModuleFault {
     fn from(fault: SyntaxFault) -> ModuleFault {
         match fault {
             SyntaxFault::Memory => ModuleFault::Memory,
-            SyntaxFault::Syntax { line } => ModuleFault::Syntax { line },
+            SyntaxFault::Syntax { line, .. } => ModuleFault::Syntax { line },
         }
     }
 }

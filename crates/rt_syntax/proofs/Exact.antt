@@ -12,7 +12,7 @@ use Rattle.rt_syntax_exprs.specs.declared.limits.Context.{Context}
 use Rattle.rt_syntax.specs.declared.tree.Body.{Body}
 use Rattle.rt_syntax.specs.Statements as line
 use Rattle.rt_syntax.specs.StatementParser as reads
-use Rattle.rt_syntax.specs.Derives.{language_limits, in_list, Derives, BeginsWithin, PassesLimit, IsUnfit, line_left, IsRefusedAt}
+use Rattle.rt_syntax.specs.Derives.{language_limits, in_list, Derives, BeginsWithin, PassesLimit, IsUnfit, line_left, IsRefusedBy, IsRefusedAt}
 use Rattle.rt_syntax.proofs.StatementLines.{good_closed}
 
 -- ---- tails of a list, by number
@@ -130,6 +130,10 @@ module _ {A : Type 0} (p : Context → Parser A) (P : Context → Part A) (f s :
         | inr none ↦ absurd (let far = none.0 in omega arith)
       ]
 
+  pub numbered : (items : List Item) (at n : ℕ) → at ≤ length items → left_from items at ≡ n → IsRefusedBy P items at (length items - n)
+  numbered items at zero le is = inr (λ k low high. viable_to items at k low (omega arith), omega arith)
+  numbered items at (suc n) le is = inl (unfit_at items at (suc n) le is (omega arith))
+
 -- ---- of a body
 
 pub not_derived : (items : List Item) (at n : ℕ) (b : Body) (place : ℕ) → parsed items at ≡ Err n → Derives items at b place → ⊥
@@ -137,6 +141,13 @@ not_derived items at n b place e d = let f = (derives_parsed items at b place d)
 
 pub refused_left : (items : List Item) (at n : ℕ) → at ≤ length items → parsed items at ≡ Err n → n ≤ length (drop at items)
 refused_left items at n le e = few_left reads.closed line.closed _ _ _ good_closed items at n le (ap left e)
+
+-- the number of the unfit item, which is there
+pub refused_number : (items : List Item) (at n : ℕ) → at ≤ length items → parsed items at ≡ Err n → (n ≤ length items) × IsRefusedBy line.closed items at (length items - n)
+refused_number items at n le e =
+    let few = refused_left items at n le e in
+    let many : length (drop at items) ≡ length items - at = length-drop at items in
+    (omega arith, numbered reads.closed line.closed _ _ _ good_closed items at n le (ap left e))
 
 pub refused_at : (items : List Item) (at n : ℕ) → at ≤ length items → parsed items at ≡ Err n → IsRefusedAt line.closed items at (line_left (drop at items) n)
 refused_at items at n le e = refused_by reads.closed line.closed _ _ _ good_closed items at n le (ap left e)

@@ -49,6 +49,11 @@ line_or_one None = 1
 abbrev pub last_line : List Item → ℕ
 last_line items = line_or_one (slice_get items (length items - 1))
 
+-- The number of the unfit item; where there is none, how many items there are.
+abbrev pub IsRefusedBy : {A : Type 0} → (Context → Part A) → List Item → ℕ → ℕ → Type 0
+IsRefusedBy part items at item =
+    IsUnfit part items at item ⊎ (((k : ℕ) → at ≤ k → k ≤ length items → BeginsWithin part language_limits items at k) × (item ≡ length items))
+
 -- The line of the unfit item; where there is none, of the last item, or 1.
 abbrev pub IsRefusedAt : {A : Type 0} → (Context → Part A) → List Item → ℕ → ℕ → Type 0
 IsRefusedAt part items at line =
@@ -59,12 +64,12 @@ IsRefusedAt part items at line =
 abbrev pub IsOrMemory : {X : Type 0} → X → Result X SyntaxFault → Type 0
 IsOrMemory x (Ok y) = y ≡ x
 IsOrMemory x (Err Memory) = Unit {0}
-IsOrMemory x (Err (Syntax line)) = ⊥
+IsOrMemory x (Err (Syntax item line)) = ⊥
 
--- a fault other than want of memory has this line
+-- a fault other than want of memory has the number and the line of the unfit item
 abbrev pub Refuses : {A : Type 0} → (Context → Part A) → List Item → ℕ → SyntaxFault → Type 0
 Refuses part items at Memory = Unit {0}
-Refuses part items at (Syntax line) = IsRefusedAt part items at line
+Refuses part items at (Syntax item line) = IsRefusedBy part items at item × IsRefusedAt part items at line
 
 -- the line of the item from which so many are left; where none is left, of the last item, or 1
 abbrev pub line_left_by : List Item → Option Item → ℕ

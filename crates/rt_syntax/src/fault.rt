@@ -7,7 +7,8 @@ use thiserror::Error;
 pub enum SyntaxFault {
     #[error("out of memory")]
     Memory,
-    /// The line of the unfit item; where there is none, of the last item, or 1.
+    /// The number of the unfit item, counted from 0, and its line; where there is none, how many items there are, and
+    /// the line of the last one, or 1.
     #[error("syntax error in line {line}")]
-    Syntax { line: u32 },
+    Syntax { item: usize, line: u32 },
 }

@@ -69,7 +69,8 @@ pub fn parse_body(alloc: Global, items: &[Item], at: usize) -> Result<(Body, usi
     ensures found { IfOk result (λ x. Derives items.now at x.0 x.1) }
     // What is derived is answered, unless memory runs out.
     ensures only { (b : Tree) (place : ℕ) → Derives items.now at b place → IsOrMemory (b, place) result }
-    // A fault has the line of the first item that is unfit; where none is, of the last item, or 1.
+    // A fault has the number and the line of the first item that is unfit; where none is, how many items there are, and
+    // the line of the last one, or 1.
     ensures refused { IfErr result (Refuses line.closed items.now at) }
 {
     let context = Context {
@@ -81,6 +82,7 @@ pub fn parse_body(alloc: Global, items: &[Item], at: usize) -> Result<(Body, usi
         Ok((found, rest)) => Ok((found, items.len() - rest.len() - 1)),
         Err(Stop::Memory) => Err(SyntaxFault::Memory),
         Err(Stop::Unfit(left)) => Err(SyntaxFault::Syntax {
+            item: items.len() - left,
             line: line_left(from, left),
         }),
     }

@@ -1,6 +1,6 @@
 use Rattle.std.proofs.Common.{◌≡◌, Ok, Err, ap}
 use Rattle.rt_grammar.specs.Parsing.{left}
-use Rattle.rt_bricks.proofs.Exact.{parsed, parsed_derives, one_module, not_with_rest, not_derived, few, refused}
+use Rattle.rt_bricks.proofs.Exact.{parsed, parsed_derives, one_module, not_with_rest, not_derived, few, refused, refused_number}
 use Rattle.rt_bricks.proofs.parse.parse_module.Goals as goal
 
 pub line_left-requires : goal.line_left-requires
@@ -27,7 +27,7 @@ returns-in-Ok-clause-only c = λ it d.
 pub returns-in-Ok-clause-refused : goal.returns-in-Ok-clause-refused
 returns-in-Ok-clause-refused c =
     let p : parsed c.args.items.now ≡ Ok (c.in-Ok.field-0-0, c.in-Ok.rest.now) = c.in-Ok.ensures in
-    rw (c.line_left.ensures) (refused c.args.items.now _ (ap left p))
+    (refused_number c.args.items.now _ (ap left p), rw (c.line_left.ensures) (refused c.args.items.now _ (ap left p)))
 
 pub line_left-requires-in-Err-Unfit : goal.line_left-requires-in-Err-Unfit
 line_left-requires-in-Err-Unfit c =
@@ -42,4 +42,4 @@ returns-in-Err-Unfit-clause-only c = λ it d.
 pub returns-in-Err-Unfit-clause-refused : goal.returns-in-Err-Unfit-clause-refused
 returns-in-Err-Unfit-clause-refused c =
     let p : parsed c.args.items.now ≡ Err c.in-Err-Unfit.left = rw (c.in-Err-Unfit.field-0-is) at c.in-Err-Unfit.ensures in
-    rw (c.line_left-in-Err-Unfit.ensures) (refused c.args.items.now _ (ap left p))
+    (refused_number c.args.items.now _ (ap left p), rw (c.line_left-in-Err-Unfit.ensures) (refused c.args.items.now _ (ap left p)))

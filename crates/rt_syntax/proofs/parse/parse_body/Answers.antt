@@ -1,5 +1,5 @@
 use Rattle.std.proofs.Common.{◌≡◌, Ok, Err, arith}
-use Rattle.rt_syntax.proofs.Exact.{parsed, parsed_derives, one_body, not_derived, refused_at, refused_left}
+use Rattle.rt_syntax.proofs.Exact.{parsed, parsed_derives, one_body, not_derived, refused_at, refused_left, refused_number}
 use Rattle.rt_syntax.proofs.parse.parse_body.Goals as goal
 
 pub overflow_sub-result : goal.overflow_sub-result
@@ -35,4 +35,10 @@ returns-in-Err-Unfit-clause-only c = λ b place d.
 pub returns-in-Err-Unfit-clause-refused : goal.returns-in-Err-Unfit-clause-refused
 returns-in-Err-Unfit-clause-refused c =
     let p : parsed c.args.items.now c.args.at ≡ Err c.in-Err-Unfit.left = rw (c.from_place-from.ensures, c.in-Err-Unfit.field-0-is) at c.in-Err-Unfit.ensures in
-    rw (c.line_left.ensures, c.from_place-from.ensures) (refused_at c.args.items.now c.args.at c.in-Err-Unfit.left c.requires p)
+    let number = (refused_number c.args.items.now c.args.at c.in-Err-Unfit.left c.requires p).1 in
+    (number, rw (c.line_left.ensures, c.from_place-from.ensures) (refused_at c.args.items.now c.args.at c.in-Err-Unfit.left c.requires p))
+
+pub overflow_sub-result-in-Err-Unfit : goal.overflow_sub-result-in-Err-Unfit
+overflow_sub-result-in-Err-Unfit c =
+    let p : parsed c.args.items.now c.args.at ≡ Err c.in-Err-Unfit.left = rw (c.from_place-from.ensures, c.in-Err-Unfit.field-0-is) at c.in-Err-Unfit.ensures in
+    let few = (refused_number c.args.items.now c.args.at c.in-Err-Unfit.left c.requires p).0 in omega arith
