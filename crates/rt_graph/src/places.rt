@@ -83,7 +83,8 @@ pub fn stands_for(bindings: &Bindings, module: u16, brick: u16) -> Option<Proc>
     }
 }
 
-fn bound_at(bindings: &Bindings, module: u16, brick: u16) -> Option<Bound>
+/// What a brick of a module was bound to; none where the module has no such brick, or there is no such module.
+pub fn bound_at(bindings: &Bindings, module: u16, brick: u16) -> Option<Bound>
     ensures { result ≡ calls.bound_in (calls.numbered bindings.now.of «module») brick }
 {
     if module == 0 {

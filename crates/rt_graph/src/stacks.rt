@@ -54,8 +54,8 @@ fn small(objects: &[Object], procs: &[Proc], needs: &[u32], task: &Task) -> Opti
     }
 }
 
-/// The need of a procedure, in a list of needs that goes with an order.
-fn told_need(procs: &[Proc], needs: &[u32], of: Proc) -> Option<u32>
+/// The need of a procedure, in a list of needs that goes with an order; none where it isn't in the order.
+pub fn told_need(procs: &[Proc], needs: &[u32], of: Proc) -> Option<u32>
     ensures { result ≡ spec.told_need procs.now needs.now of }
 {
     for number in 0..procs.len() {
@@ -66,7 +66,8 @@ fn told_need(procs: &[Proc], needs: &[u32], of: Proc) -> Option<u32>
     None
 }
 
-fn is_same(one: Proc, other: Proc) -> bool
+/// Whether two are one procedure.
+pub fn is_same(one: Proc, other: Proc) -> bool
     ensures { result ≡ spec.is_same one other }
 {
     one.module == other.module && one.brick == other.brick

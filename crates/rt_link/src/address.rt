@@ -1,14 +1,13 @@
 //! The addresses of what relocations name.
 
-ghost use Rattle.std.specs.Prelude.{◌≡◌, slice_get};
-ghost use Rattle.rt_graph.specs.Calls as calls;
+ghost use Rattle.std.specs.Prelude.{◌≡◌};
 ghost use Rattle.rt_templates.specs.Supported.{IsSupport};
 ghost use Rattle.rt_link.specs.Named as spec;
 ghost use Rattle.rt_link.specs.Ready.{AreReady};
 
 use crate::linking::Linking;
-use rt_graph::Proc;
-use rt_match::{Bindings, Bound};
+use rt_graph::{Proc, bound_at};
+use rt_match::Bound;
 use rt_object::{Relocated, Relocation};
 use rt_templates::Support;
 use rt_words::wrap_add;
@@ -35,21 +34,6 @@ fn supplied_address(support: &Support, number: u8) -> u16
         routine_address(support, u16::from(number))
     } else {
         0
-    }
-}
-
-fn bound_at(bindings: &Bindings, module: u16, brick: u16) -> Option<Bound>
-    ensures { result ≡ calls.bound_in (calls.numbered bindings.now.of «module») brick }
-{
-    if module == 0 {
-        return None;
-    }
-    match bindings.of.get(usize::from(module) - 1) {
-        Some(of) => match of.get(usize::from(brick)) {
-            Some(bound) => Some(*bound),
-            None => None,
-        },
-        None => None,
     }
 }
 

@@ -1,11 +1,11 @@
 //! The needs of the roots of tasks.
 
-ghost use Rattle.std.specs.Prelude.{◌≡◌, position, slice_get, IfOk};
-ghost use Rattle.rt_graph.specs.Numbers.{and_then};
+ghost use Rattle.std.specs.Prelude.{◌≡◌, IfOk};
 ghost use Rattle.rt_graph.specs.Scans as scans;
 ghost use Rattle.rt_link.specs.Needs as spec;
 
 use crate::judged::Judged;
+use rt_graph::told_need;
 use rt_tree_nodes::Proc;
 use rt_words::{List, Memory};
 use std::alloc::Global;
@@ -28,33 +28,4 @@ fn root_word(judged: &Judged, root: Proc) -> u16
         Some(need) => u16::try_from(need).unwrap_or(u16::MAX),
         None => 0,
     }
-}
-
-/// The need of a procedure, in a list of needs that goes with an order.
-fn told_need(order: &[Proc], needs: &[u32], of: Proc) -> Option<u32>
-    ensures { result ≡ scans.told_need order.now needs.now of }
-{
-    need_at(needs, place(order, of))
-}
-
-fn need_at(needs: &[u32], place: Option<usize>) -> Option<u32>
-    ensures { result ≡ and_then place (λ number. slice_get needs.now number) }
-{
-    match place {
-        Some(number) => needs.get(number).copied(),
-        None => None,
-    }
-}
-
-/// The place of a procedure in an order.
-fn place(order: &[Proc], of: Proc) -> Option<usize>
-    ensures { result ≡ position (λ one. scans.is_same one of) order.now }
-{
-    order.iter().position(|one| is_same(*one, of))
-}
-
-fn is_same(one: Proc, other: Proc) -> bool
-    ensures { result ≡ scans.is_same one other }
-{
-    one == other
 }

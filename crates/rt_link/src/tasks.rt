@@ -2,13 +2,13 @@
 
 ghost use Rattle.std.specs.Prelude.{◌≡◌, ◌+◌, ◌≤◌, ◌<◌, ℕ, length, IfOk};
 ghost use Rattle.std.specs.List.{sum_by};
-ghost use Rattle.rt_graph.specs.Scans as scans;
 ghost use Rattle.rt_link.specs.Addresses as addresses;
 ghost use Rattle.rt_link.specs.Room as spec;
 ghost use Rattle.rt_link.specs.Tables.{AreTaskPlaces};
 
 use crate::held::task_bytes;
 use crate::sums::code_start;
+use rt_graph::is_same;
 use rt_object::Object;
 use rt_tree_nodes::Proc;
 use rt_words::{List, Memory};
@@ -61,10 +61,4 @@ pub fn stack_address(_objects: &[Object], stacks: &[Proc], places: &[TaskPlace],
         }
     }
     0
-}
-
-fn is_same(one: Proc, other: Proc) -> bool
-    ensures { result ≡ scans.is_same one other }
-{
-    one.module == other.module && one.brick == other.brick
 }
