@@ -6,3 +6,4 @@ pub mod Turns
 pub mod Ends
 pub mod Runs
 pub mod Told
+pub mod Cycles

@@ -8,7 +8,7 @@ use Rattle.rt_digraph.specs.Alone.{true_or_not, is_marked, AreAlone, AreRanks, r
 use Rattle.rt_digraph.proofs.Lists.{no_element, some_is, get_replicate}
 use Rattle.rt_digraph.proofs.Moves.{same_or_not}
 
-is_some : (o : Option Bool) → true_or_not o ≡ true → o ≡ Some true
+pub is_some : (o : Option Bool) → true_or_not o ≡ true → o ≡ Some true
 is_some None e = absurd cc
 is_some (Some b) e = ap (λ (x : Bool). Some x) e
 

@@ -24,7 +24,7 @@ pub fn mark_alone(alloc: Global, graph: &[List<usize>]) -> Result<Vec<bool>, Mem
     Ok(marks)
 }
 
-fn none_marked(alloc: Global, count: usize) -> Result<Vec<bool>, Memory>
+pub fn none_marked(alloc: Global, count: usize) -> Result<Vec<bool>, Memory>
     ensures { IfOk result (λ marks. marks.items ≡ replicate count false) }
 {
     Ok(vec![in alloc; false; count]?)

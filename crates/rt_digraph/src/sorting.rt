@@ -79,7 +79,7 @@ fn cycle_at(
 }
 
 /// A cycle of a node, if it lies on one.
-fn cycle_of(
+pub fn cycle_of(
     alloc: Global,
     graph: &[List<usize>],
     node: usize,

@@ -1,5 +1,5 @@
 -- A record contains itself where it lies on a cycle of the graph of records, and only there.
-use Rattle.std.proofs.Common.{◌≡◌, ℕ, zero, suc, ◌+◌, ◌<◌, ◌⊎◌, inl, inr, List, [], ◌∷◌, ◌++◌, length, get_or, Option, Some, None, slice_get, refl, sym, ap, subst, ◌∙◌, arith}
+use Rattle.std.proofs.Common.{◌≡◌, ℕ, zero, suc, ◌+◌, ◌<◌, ◌⊎◌, inl, inr, Bool, List, [], ◌∷◌, ◌++◌, length, get_or, Option, Some, None, slice_get, refl, sym, ap, subst, ◌∙◌, arith}
 use Rattle.std.specs.List.{cons_option, range_with_len}
 use Rattle.std.proofs.lemmas.List.{length-map}
 use Rattle.std.proofs.lemmas.List.FromFn.{length-range_with_len, get_or-range_with_len}
@@ -9,10 +9,13 @@ use Rattle.rt_digraph.specs.Walks.{Has, Walk, one, more, Reached, root, IsOnCycl
 use Rattle.rt_digraph.specs.declared.sorting.Sorted.{Sorted}
 use Rattle.rt_digraph.specs.declared.sorting.Sorted.TheVariants as sorted
 use Rattle.rt_digraph.proofs.Lists.{no_element, get_left}
+use Rattle.rt_digraph.proofs.Told.{is_some}
+use Rattle.rt_digraph.specs.Alone.{true_or_not}
+use Rattle.rt_digraph.specs.Rings.{AreOnCycles}
 use Rattle.rt_modes.specs.declared.mode.Field.{Field}
 use Rattle.rt_modes.specs.declared.mode.RecordDef.{RecordDef}
 use Rattle.rt_sizes.specs.Containing.{held, HaveOne, fields_of, Contains, directly, through}
-use Rattle.rt_sizes.specs.Rings.{IsFirstRing, begun_by, graph_of, held_by, held_in}
+use Rattle.rt_sizes.specs.Rings.{AreRings, IsFirstRing, begun_by, graph_of, held_by, held_in}
 use Rattle.rt_sizes.proofs.Reaching.{have_there, container_there}
 
 -- ---- what fields hold is listed
@@ -104,3 +107,8 @@ module _ (records : List RecordDef) where
 
   pub sorted_rings : (graph : List (List ℕ)) (roots : List ℕ) (s : Sorted) → graph ≡ graph_of records → roots ≡ Numbers → IsSorted graph roots s → IsFirstRing records (begun_by s)
   sorted_rings graph roots s e f h = rings_by s (subst (λ ns. IsSorted (graph_of records) ns s) f (subst (λ g. IsSorted g roots s) e h))
+
+  pub rings_marked : (graph : List (List ℕ)) (marks : List Bool) → graph ≡ graph_of records → AreOnCycles graph marks → AreRings records marks
+  rings_marked graph marks e on k =
+      let here = subst (λ (g : List (List ℕ)). AreOnCycles g marks) e on k in
+      (λ m. walk_contains k k (here.0 (ap true_or_not m)), λ c. is_some (slice_get marks k) (here.1 (ring_cycle k c)))

@@ -1,5 +1,5 @@
--- The first record that contains itself, and the graph in which that is seen.
-use Rattle.std.specs.Prelude.{ℕ, ◌<◌, List, map, filter_map, Option, Some, None, slice_get}
+-- The records that contain themselves, the first of them, and the graph in which that is seen.
+use Rattle.std.specs.Prelude.{◌≡◌, ℕ, ◌<◌, ◌↔◌, Bool, true, List, map, filter_map, Option, Some, None, slice_get}
 use Rattle.rt_digraph.specs.declared.sorting.Sorted.{Sorted}
 use Rattle.rt_digraph.specs.declared.sorting.Sorted.TheVariants as sorted
 use Rattle.rt_modes.specs.declared.mode.Field.{Field}
@@ -10,6 +10,10 @@ use Rattle.rt_sizes.specs.Containing.{held, Contains}
 abbrev pub IsFirstRing : List RecordDef → Option ℕ → Type 0
 IsFirstRing records (Some k) = Contains records k k × ((j : ℕ) → j < k → Contains records j j → ⊥)
 IsFirstRing records None = (j : ℕ) → Contains records j j → ⊥
+
+-- the marked records are those that contain themselves
+abbrev pub AreRings : List RecordDef → List Bool → Type 0
+AreRings records marks = (k : ℕ) → (slice_get marks k ≡ Some true ↔ Contains records k k)
 
 -- the records that fields hold
 abbrev pub held_in : List Field → List ℕ

@@ -60,7 +60,7 @@ fn unmarked(alloc: Global, count: usize) -> Result<Vec<bool>, Memory>
     Ok(vec![in alloc; false; count]?)
 }
 
-fn is_marked(marks: &[bool], number: usize) -> bool
+pub fn is_marked(marks: &[bool], number: usize) -> bool
     ensures { IsTrue result ↔ slice_get marks.now number ≡ Some true }
 {
     match marks.get(number) {

@@ -1,11 +1,13 @@
-//! The first record that contains itself: a cycle in the graph of records.
+//! Records that contain themselves: cycles in the graph of records.
 
-ghost use Rattle.std.specs.Prelude.{◌≡◌, IfOk};
+ghost use Rattle.std.specs.Prelude.{◌≡◌, ◌↔◌, List, IfOk, IsTrue};
 ghost use Rattle.std.specs.List.{range_with_len};
-ghost use Rattle.rt_sizes.specs.Rings.{IsFirstRing, begun_by, graph_of, held_in};
+ghost use Rattle.rt_modes.specs.declared.mode.RecordDef.{RecordDef};
+ghost use Rattle.rt_sizes.specs.Containing.{Contains};
+ghost use Rattle.rt_sizes.specs.Rings.{AreRings, IsFirstRing, begun_by, graph_of, held_in};
 
-use crate::contain::held;
-use rt_digraph::{Sorted, sort};
+use crate::contain::{held, is_marked};
+use rt_digraph::{Sorted, mark_cycles, sort};
 use rt_modes::{Field, RecordDef};
 use rt_words::{List, Memory};
 use std::alloc::Global;
@@ -18,6 +20,22 @@ pub fn first_ring(alloc: Global, records: &[RecordDef]) -> Result<Option<usize>,
     let roots = numbers_below(alloc, records.len())?;
     let sorted = sort(alloc, graph.as_slice(), roots.as_slice())?;
     Ok(begun_by(&sorted))
+}
+
+/// Of each record whether it contains itself. Where few rings have records in common that takes time by the number of records and
+/// fields alone.
+pub fn mark_rings(alloc: Global, records: &[RecordDef]) -> Result<Vec<bool>, Memory>
+    ensures { IfOk result (λ marks. AreRings records.now marks.items) }
+{
+    let graph = graph_of(alloc, records)?;
+    mark_cycles(alloc, graph.as_slice())
+}
+
+/// Whether a record contains itself, where the records that do are marked.
+pub fn is_ring(marks: &[bool], number: usize) -> bool
+    ensures { (records : List RecordDef) → AreRings records marks.now → (IsTrue result ↔ Contains records number number) }
+{
+    is_marked(marks, number)
 }
 
 /// Of each record those that its fields hold.

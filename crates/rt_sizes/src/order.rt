@@ -1,6 +1,6 @@
 //! An order of records in which each stands behind those that it contains, where there is one.
 //!
-//! Sizes are found in any order: this one lets them be found in one walk over the fields.
+//! What is found of records one by one is found in any order: this one lets it be found in one walk over the fields.
 
 use crate::contain::held;
 use rt_modes::{Mode, RecordDef};
@@ -14,7 +14,8 @@ struct Visit {
     field: usize,
 }
 
-/// All records, each behind those that it contains, where no record contains itself.
+/// All records, each behind those that it contains, where no record contains itself. No clause promises it: the order is for those who are
+/// right in any.
 pub fn inner_first(alloc: Global, records: &[RecordDef]) -> Result<List<usize>, Memory> {
     let mut order = List::new(alloc, 0)?;
     let mut path = List::new(alloc, 0)?;
