@@ -287,7 +287,10 @@ module _ (l : Layouts) (c : Scope) (procs : ProcsArePROC c) where
   first_pairs [] = refl
   first_pairs (s ∷ ss) = ap (λ xs. s ∷ xs) (first_pairs ss)
 
-  pub data_counts : (fs : List Field) (ss : List DataStart) (n : ℕ) → fields_start (map (modules.starts c) ss) fs ≡ true → End t fs n → count (data_of l c fs ss) ≡ n
-  data_counts fs ss n fit end =
+  items_count : (fs : List Field) (ss : List DataStart) (n : ℕ) → fields_start (map (modules.starts c) ss) fs ≡ true → End t fs n → count (fields (map (starts l c) ss) fs nothing) ≡ n
+  items_count fs ss n fit end =
       subst (λ (xs : List DataStart). count (fields (map (starts l c) xs) fs nothing) ≡ n) (first_pairs ss)
       (fields_finish (pairs ss) fs end.0 n nothing (subst (λ (xs : List DataStart). fields_start (map (modules.starts c) xs) fs ≡ true) (sym (first_pairs ss)) fit) end.1)
+
+  pub data_counts : (fs : List Field) (ss : List DataStart) (n : ℕ) → fields_start (map (modules.starts c) ss) fs ≡ true → End t fs n → count (data_of l c fs ss) ≡ sizes.even n
+  data_counts fs ss n fit end = even_counts (fields (map (starts l c) ss) fs nothing) ∙ ap sizes.even (items_count fs ss n fit end)

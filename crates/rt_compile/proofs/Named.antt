@@ -131,7 +131,10 @@ module _ (l : Layouts) (c : Scope) where
   first_pairs [] = refl
   first_pairs (s ∷ ss) = ap (λ xs. s ∷ xs) (first_pairs ss)
 
-  pub data_named : (fs : List Field) (ss : List DataStart) → fields_start (map (modules.starts c) ss) fs ≡ true → Named (data_of l c fs ss)
-  data_named fs ss fit =
+  items_named : (fs : List Field) (ss : List DataStart) → fields_start (map (modules.starts c) ss) fs ≡ true → Named (fields (map (starts l c) ss) fs nothing)
+  items_named fs ss fit =
       subst (λ (xs : List DataStart). Named (fields (map (starts l c) xs) fs nothing)) (first_pairs ss)
       (fields_named (pairs ss) fs nothing (subst (λ (xs : List DataStart). fields_start (map (modules.starts c) xs) fs ≡ true) (sym (first_pairs ss)) fit) tt)
+
+  pub data_named : (fs : List Field) (ss : List DataStart) → fields_start (map (modules.starts c) ss) fs ≡ true → Named (data_of l c fs ss)
+  data_named fs ss fit = even_named (fields (map (starts l c) ss) fs nothing) (items_named fs ss fit)

@@ -175,4 +175,4 @@ module _ (l : Layouts) (c : Scope) where
   starts_keep (s ∷ ss) = (start_keeps s, starts_keep ss)
 
   pub data_within : (fs : List Field) (ss : List DataStart) → AreWithin (data_of l c fs ss)
-  data_within fs ss = fields_within (map (starts l c) ss) (starts_keep ss) fs nothing (record { rise = λ i j m n h e f. absurd cc; inside = tt })
+  data_within fs ss = even_within (fields (map (starts l c) ss) fs nothing) (fields_within (map (starts l c) ss) (starts_keep ss) fs nothing (record { rise = λ i j m n h e f. absurd cc; inside = tt }))

@@ -109,6 +109,6 @@ module _ (l : Layouts) (c : Scope) where
   abbrev pub starts : DataStart → Writing
   starts = fold-DataStart Writing one_start
 
-  -- a data brick of these items with these starts; it ends where its last item does
+  -- a data brick of these items with these starts; they lie as the fields of a record, so it ends at an even place
   abbrev pub data_of : List Field → List DataStart → Data
-  data_of fs ss = fields (map starts ss) fs nothing
+  data_of fs ss = even (fields (map starts ss) fs nothing)

@@ -2,7 +2,7 @@
 use Rattle.std.specs.Prelude.{◌≡◌, ℕ, ◌*◌, ◌<◌, true, List, length, map, Some, slice_get}
 use Rattle.std.specs.List.{AllByRecursion}
 use Rattle.rt_modes.specs.declared.mode.Field.{Field}
-use Rattle.rt_sizes.specs.Sizes.{End}
+use Rattle.rt_sizes.specs.Sizes.{End, even}
 use Rattle.rt_tree_nodes.specs.declared.brick.Brick.{Brick}
 use Rattle.rt_tree_nodes.specs.declared.brick.BrickSort.TheVariants as sort
 use Rattle.rt_tree_nodes.specs.declared.brick.DataStart.{DataStart}
@@ -47,6 +47,6 @@ pub record IsDataBrick (p : ModuleParts) (fs : List Field) (ss : List DataStart)
 abbrev pub PlacesAreNamed : Type 0
 PlacesAreNamed = (l : Layouts) (p : ModuleParts) (fs : List Field) (ss : List DataStart) → every_node_fits p ≡ true → IsDataBrick p fs ss → AllByRecursion (λ r. IsNamed (length p.strings) (length p.bricks) r.of) (data_of l (scope_of p) fs ss).relocations
 
--- there are as many bytes as the items have
+-- there are as many bytes as the items have, rounded up to an even number
 abbrev pub BytesAreCounted : Type 0
-BytesAreCounted = (l : Layouts) (p : ModuleParts) (fs : List Field) (ss : List DataStart) (n : ℕ) → every_node_fits p ≡ true → IsDataBrick p fs ss → End (table_of p.modes.records) fs n → length (data_of l (scope_of p) fs ss).bytes ≡ n
+BytesAreCounted = (l : Layouts) (p : ModuleParts) (fs : List Field) (ss : List DataStart) (n : ℕ) → every_node_fits p ≡ true → IsDataBrick p fs ss → End (table_of p.modes.records) fs n → length (data_of l (scope_of p) fs ss).bytes ≡ even n

@@ -128,8 +128,9 @@ module _ (ps : System) (ls : List Layouts) (os : List ObjectParts) (tasks : List
       let ranges : HasObjectRanges o.0 = all_at HasObjectRanges os s.object_ranges i o.0 o.1 in
       let brick = each_is (HasBrickRanges o.0.records.records (length o.0.strings) (length o.0.bricks)) o.0.bricks b its.its ranges.each_brick its.at in
       let data_ranges = held_ranges o.0.records.records (length o.0.strings) (length o.0.bricks) its.its.name its.its.kind (items_of fs (data_of l.0 (scope_of p) fs ss)) brick.kind its.holds in
-      let end : End (table_of o.0.records.records) fs (length (data_of l.0 (scope_of p) fs ss).bytes) = data_ranges.size.0 in
-      (length (data_of l.0 (scope_of p) fs ss).bytes, subst (λ (t : ModeTable). End (table_of t.records) fs (length (data_of l.0 (scope_of p) fs ss).bytes)) tree.object.records end)
+      let size = data_ranges.size.0 in
+      let end : End (table_of o.0.records.records) fs size = data_ranges.size.1.0 in
+      (size, subst (λ (t : ModeTable). End (table_of t.records) fs size) tree.object.records end)
 
   pub trees_are : ((m r : ℕ) (p : ModuleParts) (d : RecordDef) → module_of ps m ≡ Some p → slice_get p.modes.records r ≡ Some d → d.fields ≢ []) → TreesAre ps
   trees_are filled = record {

@@ -15,7 +15,7 @@ use Rattle.rt_tree_nodes.specs.Scopes.{scope_of}
 use Rattle.rt_tree.specs.Modules.{is_here}
 use Rattle.rt_tree.specs.Opened.{IsTable, FullModesOpen}
 use Rattle.rt_tree.specs.Stored.{System, HasBrick, StandsAt, module_of}
-use Rattle.rt_sizes.specs.Sizes.{End, offset}
+use Rattle.rt_sizes.specs.Sizes.{End, even, offset}
 use Rattle.rt_sizes.proofs.Layers.{some_is}
 use Rattle.rt_sizes_laws.proofs.Deeper.{place_of as place_at, place_grows, whole_lists_are_known}
 use Rattle.rt_work_state.specs.Items.{item}
@@ -62,7 +62,7 @@ module _ (opens : FullModesOpen) (bytes_counted : BytesAreCounted) (ps : System)
   abbrev S : ℕ → ℕ → Option ℕ
   S = sizes_of ls
 
-  counted : (l : Layouts) (m b : ℕ) (p : ModuleParts) (d : Brick) (fs : List Field) (ss : List DataStart) (n : ℕ) → HasBrick ps m b p d → is_here d.kind ≡ true → d.sort ≡ sort.Data fs ss → End (table_of p.modes.records) fs n → length (data_of l (scope_of p) fs ss).bytes ≡ n
+  counted : (l : Layouts) (m b : ℕ) (p : ModuleParts) (d : Brick) (fs : List Field) (ss : List DataStart) (n : ℕ) → HasBrick ps m b p d → is_here d.kind ≡ true → d.sort ≡ sort.Data fs ss → End (table_of p.modes.records) fs n → length (data_of l (scope_of p) fs ss).bytes ≡ even n
   counted l m b p d fs ss n has h is end = bytes_counted l p fs ss n (trees.nodes m p has.of) (record { number = b; brick = d; there = has.at; here = h; sort_is = is }) end
 
   sized : HasSizes ps S

@@ -76,7 +76,7 @@ module _ (opens : FullModesOpen) (tells : FullModesTell) (bytes_counted : BytesA
   abbrev S : ℕ → ℕ → Option ℕ
   S = sizes_of ls
 
-  counted : (l : Layouts) (m b : ℕ) (p : ModuleParts) (d : Brick) (fs : List Field) (ss : List DataStart) (n : ℕ) → HasBrick ps m b p d → is_here d.kind ≡ true → d.sort ≡ sort.Data fs ss → End (table_of p.modes.records) fs n → length (data_of l (scope_of p) fs ss).bytes ≡ n
+  counted : (l : Layouts) (m b : ℕ) (p : ModuleParts) (d : Brick) (fs : List Field) (ss : List DataStart) (n : ℕ) → HasBrick ps m b p d → is_here d.kind ≡ true → d.sort ≡ sort.Data fs ss → End (table_of p.modes.records) fs n → length (data_of l (scope_of p) fs ss).bytes ≡ even n
   counted l m b p d fs ss n has here is end = bytes_counted l p fs ss n (trees.nodes m p has.of) (record { number = b; brick = d; there = has.at; here = here; sort_is = is }) end
 
   sized : HasSizes ps S

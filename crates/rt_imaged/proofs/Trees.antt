@@ -87,7 +87,7 @@ its_data l p o k d fs ss are e here is =
 module _ (ps : System) (ls : List Layouts) (os : List ObjectParts) (long : length ls ≡ length ps) (same : length os ≡ length ps) (trees : (i : ℕ) (p : ModuleParts) (l : Layouts) (o : ObjectParts) → slice_get ps i ≡ Some p → slice_get ls i ≡ Some l → slice_get os i ≡ Some o → IsObjectBy p l o)
     (filled : (m r : ℕ) (p : ModuleParts) (d : RecordDef) → module_of ps m ≡ Some p → slice_get p.modes.records r ≡ Some d → d.fields ≢ [])
     (ends : (m b : ℕ) (p : ModuleParts) (d : Brick) (fs : List Field) (ss : List DataStart) → HasBrick ps m b p d → is_here d.kind ≡ true → d.sort ≡ sort.Data fs ss → (n : ℕ) × End (table_of p.modes.records) fs n)
-    (counted : (l : Layouts) (m b : ℕ) (p : ModuleParts) (d : Brick) (fs : List Field) (ss : List DataStart) (n : ℕ) → HasBrick ps m b p d → is_here d.kind ≡ true → d.sort ≡ sort.Data fs ss → End (table_of p.modes.records) fs n → length (data_of l (scope_of p) fs ss).bytes ≡ n) where
+    (counted : (l : Layouts) (m b : ℕ) (p : ModuleParts) (d : Brick) (fs : List Field) (ss : List DataStart) (n : ℕ) → HasBrick ps m b p d → is_here d.kind ≡ true → d.sort ≡ sort.Data fs ss → End (table_of p.modes.records) fs n → length (data_of l (scope_of p) fs ss).bytes ≡ even n) where
   abbrev pub S : ℕ → ℕ → Option ℕ
   S = sizes_of ls
 
@@ -182,7 +182,7 @@ module _ (ps : System) (ls : List Layouts) (os : List ObjectParts) (long : lengt
       let d = brick_data_is m b n h k in
       let end = ends m b h.parts h.brick h.fields h.starts h.has h.here h.sort in
       let equals : n ≡ end.0 = some_is n end.0 (sym h.ends ∙ tells_end m h.parts h.fields end.0 h.has.of end.1) in
-      let long : length (data_of k.layouts (scope_of h.parts) h.fields h.starts).bytes ≡ end.0 = counted k.layouts m b h.parts h.brick h.fields h.starts end.0 h.has h.here h.sort end.1 in
+      let long : length (data_of k.layouts (scope_of h.parts) h.fields h.starts).bytes ≡ even end.0 = counted k.layouts m b h.parts h.brick h.fields h.starts end.0 h.has h.here h.sort end.1 in
       let bytes : data_bytes d.its ≡ even (length (data_of k.layouts (scope_of h.parts) h.fields h.starts).bytes) = ap data_in d.holds in
       let more = even_more (length (data_of k.layouts (scope_of h.parts) h.fields h.starts).bytes) in
       record { object = k.object; its = d.its; of = k.its; at = d.at; bytes = omega arith }

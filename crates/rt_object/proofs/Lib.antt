@@ -1,4 +1,5 @@
 pub mod Apart
+pub mod Beginning
 pub mod Decided
 pub mod Depth
 pub mod Differing

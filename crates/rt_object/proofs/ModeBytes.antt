@@ -1,5 +1,5 @@
--- The spelling of a mode is bytes.
-use Rattle.std.proofs.Common.{◌≡◌, ℕ, zero, suc, ◌^◌, ◌≤◌, List, [], ◌∷◌, map, Some, None, refl, sym, subst, arith}
+-- The spelling of a mode is bytes, and begins with its code.
+use Rattle.std.proofs.Common.{◌≡◌, ℕ, zero, suc, ◌^◌, ◌≤◌, Bool, List, [], ◌∷◌, map, Some, None, refl, sym, ap, subst, ◌∙◌, arith}
 use Rattle.std.specs.List.{AllByRecursion}
 use Rattle.rt_words.proofs.Spelled.{AreBytes, bytes_append, word_are_bytes}
 use Rattle.rt_modes.specs.FullMode.{joined}
@@ -10,6 +10,7 @@ use Rattle.rt_modes.specs.declared.mode.Mode.{Mode, out-Mode, map-Mode}
 use Rattle.rt_modes.specs.declared.mode.Mode.TheFolds.{fold_out-Mode}
 use Rattle.rt_modes.specs.declared.mode.Mode.TheOpen.{Mode-F}
 use Rattle.rt_words.specs.Bytes.{word_bytes}
+use Rattle.rt_object.specs.Grammar.{begins}
 
 spelled_at : (m : Mode) (l : Mode-F Mode) → out-Mode m ≡ l → spelling m ≡ one_spelling (map-Mode Mode (List ℕ) spelling l)
 spelled_at m l o = rw (fold_out-Mode, o) refl
@@ -45,3 +46,34 @@ inside_bytes records small (suc levels) place refs m h = one_bytes records small
 
 pub mode_bytes : (records : ℕ) → records ≤ 2 ^ 16 → (m : Mode) → MayStand records m → AreBytes (spelling m)
 mode_bytes records small m h = one_bytes records small (StandsInside records 100) (inside_bytes records small 100) 100 Alone 8 m h
+
+-- ---- its code
+
+abbrev pub code_in : Mode-F Mode → ℕ
+code_in Mode-F.Byte = 1
+code_in Mode-F.Int = 2
+code_in Mode-F.Frac = 3
+code_in (Mode-F.Ref m) = 4
+code_in (Mode-F.RefArray m) = 5
+code_in (Mode-F.Array n m) = 6
+code_in (Mode-F.Record k) = 7
+code_in Mode-F.Label = 8
+code_in (Mode-F.Proc ps r) = 9
+
+layer_coded : (l : Mode-F Mode) → (t : List ℕ) × (one_spelling (map-Mode Mode (List ℕ) spelling l) ≡ code_in l ∷ t)
+layer_coded Mode-F.Byte = (_, refl)
+layer_coded Mode-F.Int = (_, refl)
+layer_coded Mode-F.Frac = (_, refl)
+layer_coded (Mode-F.Ref m) = (_, refl)
+layer_coded (Mode-F.RefArray m) = (_, refl)
+layer_coded (Mode-F.Array n m) = (_, refl)
+layer_coded (Mode-F.Record k) = (_, refl)
+layer_coded Mode-F.Label = (_, refl)
+layer_coded (Mode-F.Proc ps None) = (_, refl)
+layer_coded (Mode-F.Proc ps (Some r)) = (_, refl)
+
+pub coded : (m : Mode) → (t : List ℕ) × (spelling m ≡ code_in (out-Mode m) ∷ t)
+coded m = let k = layer_coded (out-Mode m) in (k.0, spelled_at m (out-Mode m) refl ∙ k.1)
+
+pub begins_coded : (test : ℕ → Bool) (m : Mode) → begins test (spelling m) ≡ test (code_in (out-Mode m))
+begins_coded test m = ap (begins test) (coded m).1

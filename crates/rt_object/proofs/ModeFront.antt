@@ -69,3 +69,7 @@ front_inside records (suc levels) place refs = front_mode_of records (inside rec
 
 pub front_mode : (records : ℕ) → IsReadBack (mode_format records)
 front_mode records = front_mode_of records (inside records 100) (λ q k. front_inside records 100 q k) (λ q k. inside_else records 100 q k) 8 100 Alone
+
+-- its code is there
+pub some_code : (records : ℕ) (r : List ℕ) (m : Mode) → (mode_format records).Fits [] r m → ⊥
+some_code records r m (t, c, (b, e, f), rest) = let bad : [] ≡ b ∷ t = e in cc

@@ -4,7 +4,7 @@ use Rattle.rt_words.specs.Format.{Format, nothing, byte, word, block, tag, name,
 use Rattle.rt_modes.specs.Spelling.{mode_format}
 use Rattle.rt_words.specs.FormatLaws.{IsReadBack}
 use Rattle.rt_words.proofs.Front.{front_nothing, front_byte, front_word, front_block, front_tag, front_name, front_then, front_each, front_times, front_passing}
-use Rattle.rt_object.proofs.ModeFront.{front_mode}
+use Rattle.rt_object.proofs.ModeFront.{front_mode, some_code}
 use Rattle.rt_modes.specs.declared.mode.Field.{Field}
 use Rattle.rt_modes.specs.declared.mode.RecordDef.{RecordDef}
 use Rattle.rt_object.specs.declared.object.Brick.{Brick}
@@ -15,8 +15,9 @@ use Rattle.rt_object.specs.declared.object.Relocated.TheVariants as relocated
 use Rattle.rt_object.specs.declared.object.Relocation.{Relocation}
 use Rattle.rt_object.specs.declared.object.Supplied.TheVariants as supplied
 use Rattle.rt_object.specs.declared.object.Target.TheVariants as target
-use Rattle.rt_object.specs.Grammar.{is_new, is_proc, is_value, size_of, is_within_most, is_size, is_place, is_taken, kind_of, sort_in, called_of, named_of, below, is_rrerr, may_be}
+use Rattle.rt_object.specs.Grammar.{is_new, is_proc_code, is_value_code, size_of, is_within_most, is_size, is_place, is_taken, kind_of, sort_in, called_of, named_of, below, is_rrerr, may_be}
 use Rattle.rt_object.specs.Grammar as spec
+use Rattle.rt_object.proofs.Beginning.{front_beginning}
 use Rattle.rt_object.specs.declared.tag.Called.{Called}
 use Rattle.rt_object.specs.declared.tag.Kind.{Kind}
 use Rattle.rt_object.specs.declared.tag.Named.{Named}
@@ -74,7 +75,7 @@ module _ (records : List RecordDef) (strings bricks : ℕ) where
 
   front_called : (c : Called) → IsReadBack (spec.called_format records strings bricks c)
   front_called callees.Brick = front_made (word (below bricks)) target.Brick (front_word (below bricks))
-  front_called callees.Mode = front_made (passing is_value (spec.mode records strings bricks)) target.Mode (front_passing is_value (spec.mode records strings bricks) front_mode_here)
+  front_called callees.Mode = front_made (spec.beginning is_value_code (spec.mode records strings bricks)) target.Mode (front_beginning is_value_code (spec.mode records strings bricks) front_mode_here (some_code (length records)))
   front_called callees.Error = front_nothing target.Error
 
   front_call : IsReadBack (spec.call_format records strings bricks)
@@ -83,8 +84,8 @@ module _ (records : List RecordDef) (strings bricks : ℕ) where
       (λ args. front_then (byte called_of) _ (front_byte called_of)
       (λ called. front_made (spec.called_format records strings bricks called) (λ target. record { depth = depth; args = args; target = target }) (front_called called))))
 
-  front_proc_mode : IsReadBack (passing is_proc (spec.mode records strings bricks))
-  front_proc_mode = front_passing is_proc (spec.mode records strings bricks) front_mode_here
+  front_proc_mode : IsReadBack (spec.beginning is_proc_code (spec.mode records strings bricks))
+  front_proc_mode = front_beginning is_proc_code (spec.mode records strings bricks) front_mode_here (some_code (length records))
 
   front_calls : IsReadBack (spec.calls_format records strings bricks)
   front_calls = front_then (word any) _ front_any (λ count. front_times (spec.call_format records strings bricks) front_call count [])
@@ -93,7 +94,7 @@ module _ (records : List RecordDef) (strings bricks : ℕ) where
   front_body = front_then spec.code_format _ front_code (λ code. front_made (spec.relocations_format records strings bricks 1 (length code.0)) (λ relocations. (code, relocations)) (front_relocations 1 (length code.0)))
 
   front_proc : IsReadBack (spec.proc_format records strings bricks)
-  front_proc = front_then (passing is_proc (spec.mode records strings bricks)) _ front_proc_mode
+  front_proc = front_then (spec.beginning is_proc_code (spec.mode records strings bricks)) _ front_proc_mode
       (λ m. front_then (word any) _ front_any
       (λ items. front_then (word any) _ front_any
       (λ locals. front_then (word any) _ front_any
@@ -118,12 +119,12 @@ module _ (records : List RecordDef) (strings bricks : ℕ) where
   front_content sorts.Stack = front_made (word (within 1 28672)) content.Stack (front_word (within 1 28672))
 
   front_external : (sort : Sort) → IsReadBack (spec.external_format records strings bricks sort)
-  front_external sorts.Proc = front_made (passing is_proc (spec.mode records strings bricks)) external.Proc front_proc_mode
+  front_external sorts.Proc = front_made (spec.beginning is_proc_code (spec.mode records strings bricks)) external.Proc front_proc_mode
   front_external sorts.Data = front_made (spec.data_fields records strings bricks false) external.Data (front_data_fields false)
   front_external sorts.Stack = front_nothing external.Stack
 
   front_supplied : (n : List ℕ) (sort : Sort) → IsReadBack (spec.supplied_format records strings bricks n sort)
-  front_supplied n sorts.Proc = front_made (passing is_proc (spec.mode records strings bricks)) supplied.Proc front_proc_mode
+  front_supplied n sorts.Proc = front_made (spec.beginning is_proc_code (spec.mode records strings bricks)) supplied.Proc front_proc_mode
   front_supplied n sorts.Data = front_made (spec.data_fields records strings bricks (is_rrerr n)) supplied.Data (front_data_fields (is_rrerr n))
   front_supplied n sorts.Stack = front_made (spec.data_fields records strings bricks (is_rrerr n)) supplied.Data (front_data_fields (is_rrerr n))
 

@@ -16,8 +16,9 @@ use Rattle.rt_object.specs.declared.object.Relocated.TheVariants as relocated
 use Rattle.rt_object.specs.declared.object.Relocation.{Relocation}
 use Rattle.rt_object.specs.declared.object.Supplied.TheVariants as supplied
 use Rattle.rt_object.specs.declared.object.Target.TheVariants as target
-use Rattle.rt_object.specs.Grammar.{is_new, is_proc, is_value, size_of, is_within_most, is_size, is_place, is_taken, kind_of, sort_in, called_of, named_of, below, is_rrerr, may_be}
+use Rattle.rt_object.specs.Grammar.{is_new, is_proc_code, is_value_code, size_of, is_within_most, is_size, is_place, is_taken, kind_of, sort_in, called_of, named_of, below, is_rrerr, may_be}
 use Rattle.rt_object.specs.Grammar as spec
+use Rattle.rt_object.proofs.Beginning.{right_beginning}
 use Rattle.rt_object.specs.Reading as reads
 use Rattle.rt_object.specs.declared.tag.Called.{Called}
 use Rattle.rt_object.specs.declared.tag.Kind.{Kind}
@@ -96,7 +97,7 @@ module _ (records : List RecordDef) (strings bricks : ℕ) where
   right_called : (k : Called) → Right (reads.called_reader records strings bricks k) (spec.called_format records strings bricks k)
   unfolding reads.called_reader
   right_called callees.Brick = right_made (formats.word (below bricks)) (format.word (below bricks)) target.Brick (right_word (below bricks))
-  right_called callees.Mode = right_made (formats.passing is_value (reads.mode records strings bricks)) (format.passing is_value (spec.mode records strings bricks)) target.Mode (right_passing is_value (reads.mode records strings bricks) (spec.mode records strings bricks) right_mode_here)
+  right_called callees.Mode = right_made (reads.beginning is_value_code (reads.mode records strings bricks)) (spec.beginning is_value_code (spec.mode records strings bricks)) target.Mode (right_beginning is_value_code (reads.mode records strings bricks) (spec.mode records strings bricks) right_mode_here)
   right_called callees.Error = right_nothing target.Error
 
   right_call : Right (reads.call_reader records strings bricks) (spec.call_format records strings bricks)
@@ -106,8 +107,8 @@ module _ (records : List RecordDef) (strings bricks : ℕ) where
       (λ args. right_then (formats.byte called_of) _ (format.byte called_of) _ (right_byte called_of)
       (λ called. right_made (reads.called_reader records strings bricks called) (spec.called_format records strings bricks called) (λ target. record { depth = depth; args = args; target = target }) (right_called called))))
 
-  right_proc_mode : Right (formats.passing is_proc (reads.mode records strings bricks)) (format.passing is_proc (spec.mode records strings bricks))
-  right_proc_mode = right_passing is_proc (reads.mode records strings bricks) (spec.mode records strings bricks) right_mode_here
+  right_proc_mode : Right (reads.beginning is_proc_code (reads.mode records strings bricks)) (spec.beginning is_proc_code (spec.mode records strings bricks))
+  right_proc_mode = right_beginning is_proc_code (reads.mode records strings bricks) (spec.mode records strings bricks) right_mode_here
 
   right_calls : Right (reads.calls_reader records strings bricks) (spec.calls_format records strings bricks)
   unfolding reads.calls_reader
@@ -120,7 +121,7 @@ module _ (records : List RecordDef) (strings bricks : ℕ) where
 
   right_proc : Right (reads.proc_reader records strings bricks) (spec.proc_format records strings bricks)
   unfolding reads.proc_reader
-  right_proc = right_then (formats.passing is_proc (reads.mode records strings bricks)) _ (format.passing is_proc (spec.mode records strings bricks)) _ right_proc_mode
+  right_proc = right_then (reads.beginning is_proc_code (reads.mode records strings bricks)) _ (spec.beginning is_proc_code (spec.mode records strings bricks)) _ right_proc_mode
       (λ m. right_then (formats.word any) _ (format.word any) _ right_any
       (λ items. right_then (formats.word any) _ (format.word any) _ right_any
       (λ locals. right_then (formats.word any) _ (format.word any) _ right_any
@@ -150,7 +151,7 @@ module _ (records : List RecordDef) (strings bricks : ℕ) where
 
   right_external : (sort : Sort) → Right (reads.external_reader records strings bricks sort) (spec.external_format records strings bricks sort)
   unfolding reads.external_reader
-  right_external sorts.Proc = right_made (formats.passing is_proc (reads.mode records strings bricks)) (format.passing is_proc (spec.mode records strings bricks)) external.Proc right_proc_mode
+  right_external sorts.Proc = right_made (reads.beginning is_proc_code (reads.mode records strings bricks)) (spec.beginning is_proc_code (spec.mode records strings bricks)) external.Proc right_proc_mode
   right_external sorts.Data = right_made (reads.data_fields records strings bricks false) (spec.data_fields records strings bricks false) external.Data (right_data_fields false)
   right_external sorts.Stack = right_nothing external.Stack
 
@@ -159,7 +160,7 @@ module _ (records : List RecordDef) (strings bricks : ℕ) where
 
   right_supplied : (n : List ℕ) (sort : Sort) → Right (reads.supplied_reader records strings bricks n sort) (spec.supplied_format records strings bricks n sort)
   unfolding reads.supplied_reader
-  right_supplied n sorts.Proc = right_made (formats.passing is_proc (reads.mode records strings bricks)) (format.passing is_proc (spec.mode records strings bricks)) supplied.Proc right_proc_mode
+  right_supplied n sorts.Proc = right_made (reads.beginning is_proc_code (reads.mode records strings bricks)) (spec.beginning is_proc_code (spec.mode records strings bricks)) supplied.Proc right_proc_mode
   right_supplied n sorts.Data = right_supplied_data n
   right_supplied n sorts.Stack = right_supplied_data n
 

@@ -15,8 +15,9 @@ use Rattle.rt_object.specs.declared.object.Relocated.TheVariants as relocated
 use Rattle.rt_object.specs.declared.object.Relocation.{Relocation}
 use Rattle.rt_object.specs.declared.object.Supplied.TheVariants as supplied
 use Rattle.rt_object.specs.declared.object.Target.TheVariants as target
-use Rattle.rt_object.specs.Grammar.{is_new, is_proc, is_value, size_of, is_within_most, is_size, is_place, is_taken, kind_of, sort_in, called_of, named_of, below, is_rrerr, may_be}
+use Rattle.rt_object.specs.Grammar.{is_new, is_proc_code, is_value_code, size_of, is_within_most, is_size, is_place, is_taken, kind_of, sort_in, called_of, named_of, below, is_rrerr, may_be}
 use Rattle.rt_object.specs.Grammar as spec
+use Rattle.rt_object.proofs.Beginning.{in_beginning}
 use Rattle.rt_object.specs.declared.tag.Called.{Called}
 use Rattle.rt_object.specs.declared.tag.Kind.{Kind}
 use Rattle.rt_object.specs.declared.tag.Named.{Named}
@@ -74,7 +75,7 @@ module _ (records : List RecordDef) (strings bricks : ℕ) where
 
   in_called : (c : Called) → Within (spec.called_format records strings bricks c)
   in_called callees.Brick = in_made (word (below bricks)) target.Brick (in_word (below bricks))
-  in_called callees.Mode = in_made (passing is_value (spec.mode records strings bricks)) target.Mode (in_passing is_value (spec.mode records strings bricks) in_mode_here)
+  in_called callees.Mode = in_made (spec.beginning is_value_code (spec.mode records strings bricks)) target.Mode (in_beginning is_value_code (spec.mode records strings bricks) in_mode_here)
   in_called callees.Error = in_nothing target.Error
 
   in_call : Within (spec.call_format records strings bricks)
@@ -83,8 +84,8 @@ module _ (records : List RecordDef) (strings bricks : ℕ) where
       (λ args. in_then (byte called_of) _ (in_byte called_of)
       (λ called. in_made (spec.called_format records strings bricks called) (λ target. record { depth = depth; args = args; target = target }) (in_called called))))
 
-  in_proc_mode : Within (passing is_proc (spec.mode records strings bricks))
-  in_proc_mode = in_passing is_proc (spec.mode records strings bricks) in_mode_here
+  in_proc_mode : Within (spec.beginning is_proc_code (spec.mode records strings bricks))
+  in_proc_mode = in_beginning is_proc_code (spec.mode records strings bricks) in_mode_here
 
   in_calls : Within (spec.calls_format records strings bricks)
   in_calls = in_then (word any) _ in_any (λ count. in_times (spec.call_format records strings bricks) count [] in_call)
@@ -93,7 +94,7 @@ module _ (records : List RecordDef) (strings bricks : ℕ) where
   in_body = in_then spec.code_format _ in_code (λ code. in_made (spec.relocations_format records strings bricks 1 (length code.0)) (λ relocations. (code, relocations)) (in_relocations 1 (length code.0)))
 
   in_proc : Within (spec.proc_format records strings bricks)
-  in_proc = in_then (passing is_proc (spec.mode records strings bricks)) _ in_proc_mode
+  in_proc = in_then (spec.beginning is_proc_code (spec.mode records strings bricks)) _ in_proc_mode
       (λ m. in_then (word any) _ in_any
       (λ items. in_then (word any) _ in_any
       (λ locals. in_then (word any) _ in_any
@@ -118,12 +119,12 @@ module _ (records : List RecordDef) (strings bricks : ℕ) where
   in_content sorts.Stack = in_made (word (within 1 28672)) content.Stack (in_word (within 1 28672))
 
   in_external : (sort : Sort) → Within (spec.external_format records strings bricks sort)
-  in_external sorts.Proc = in_made (passing is_proc (spec.mode records strings bricks)) external.Proc in_proc_mode
+  in_external sorts.Proc = in_made (spec.beginning is_proc_code (spec.mode records strings bricks)) external.Proc in_proc_mode
   in_external sorts.Data = in_made (spec.data_fields records strings bricks false) external.Data (in_data_fields false)
   in_external sorts.Stack = in_nothing external.Stack
 
   in_supplied : (n : List ℕ) (sort : Sort) → Within (spec.supplied_format records strings bricks n sort)
-  in_supplied n sorts.Proc = in_made (passing is_proc (spec.mode records strings bricks)) supplied.Proc in_proc_mode
+  in_supplied n sorts.Proc = in_made (spec.beginning is_proc_code (spec.mode records strings bricks)) supplied.Proc in_proc_mode
   in_supplied n sorts.Data = in_made (spec.data_fields records strings bricks (is_rrerr n)) supplied.Data (in_data_fields (is_rrerr n))
   in_supplied n sorts.Stack = in_made (spec.data_fields records strings bricks (is_rrerr n)) supplied.Data (in_data_fields (is_rrerr n))
 

@@ -10,9 +10,9 @@ use Rattle.rt_modes.specs.Spelling.{spelling, MayStand}
 use Rattle.rt_modes.specs.declared.mode.Field.{Field}
 use Rattle.rt_modes.specs.declared.mode.Mode.{Mode}
 use Rattle.rt_modes.specs.declared.mode.RecordDef.{RecordDef}
-use Rattle.rt_object.specs.Grammar.{may_be, is_rrerr, is_proc, size_of, is_within_most, is_size}
+use Rattle.rt_object.specs.Grammar.{may_be, is_rrerr, is_proc_code, beginning, size_of, is_within_most, is_size}
 use Rattle.rt_object.specs.Grammar as spec
-use Rattle.rt_object.specs.Ranges.{IsWord, IsName, IsProcMode, IsNoLabel, HaveFieldRanges, HaveSize, HaveRelocationRanges, HasCallRanges, HasProcRanges, HasDataRanges, HaveOutsideRanges, HasContentRanges, HasExternalRanges, HasSuppliedRanges, HasKindRanges, HasBrickRanges}
+use Rattle.rt_object.specs.Ranges.{IsWord, IsName, IsProcMode, IsNoLabel, HaveFieldRanges, HaveBytes, HaveRelocationRanges, HasCallRanges, HasProcRanges, HasDataRanges, HaveOutsideRanges, HasContentRanges, HasExternalRanges, HasSuppliedRanges, HasKindRanges, HasBrickRanges}
 use Rattle.rt_object.specs.Spelling.{counted_spelling, fields_spelling, block_spelling, relocations_spelling, call_spelling, code_spelling, proc_spelling, data_spelling, kind_spelling, content_spelling, external_spelling, supplied_spelling, holds_spelling, brick_spelling}
 use Rattle.rt_object.specs.declared.object.Brick.{Brick}
 use Rattle.rt_object.specs.declared.object.BrickKind.{BrickKind}
@@ -111,7 +111,7 @@ module _ (records : List RecordDef) (strings bricks : ℕ) (few_records : length
       let g2 : (m : Mode) (i : ℕ) → Spelt (f2 m i) s2 (k2 m i) = λ m i. spelt_then (word any) word_bytes IsWord spelt_any (f3 m i) s3 (k3 m i) (λ p. p.locals) (λ l k. g3 m i l) (λ l p h. ap (λ (y : ProcContent). y.locals) h.1.1.1) in
       let g1 : (m : Mode) → Spelt (f1 m) s1 (k1 m) = λ m. spelt_then (word any) word_bytes IsWord spelt_any (f2 m) s2 (k2 m) (λ p. p.items) (λ i k. g2 m i) (λ i p h. ap (λ (y : ProcContent). y.items) h.1.1.1.1) in
       spelt_same (spec.proc_format records strings bricks) (λ p. spelling p.mode ++ s1 p) proc_spelling (λ p. (MayStand (length records) p.mode × IsProcMode p.mode) × k1 p.mode p) (HasProcRanges records strings bricks)
-      (spelt_then (passing is_proc (spec.mode records strings bricks)) spelling (λ m. MayStand (length records) m × IsProcMode m) (spelt_proc_mode (length records) few_records) f1 s1 k1 (λ p. p.mode) (λ m k. g1 m)
+      (spelt_then (beginning is_proc_code (spec.mode records strings bricks)) spelling (λ m. MayStand (length records) m × IsProcMode m) (spelt_proc_mode (length records) few_records) f1 s1 k1 (λ p. p.mode) (λ m k. g1 m)
       (λ m p h. ap (λ (y : ProcContent). y.mode) h.1.1.1.1.1))
       (λ p h. refl)
       (λ p h. let calls = h.1.1.1.1.0 in let few = calls.0 in let body = h.1.1.1.1.1.0 in record {
@@ -145,10 +145,13 @@ module _ (records : List RecordDef) (strings bricks : ℕ) (few_records : length
   spelt_of_rrerr : (n : List ℕ) → Spelt (spec.data_fields records strings bricks (is_rrerr n)) fields_spelling (HaveOutsideRanges records strings bricks (IsInRrerr n))
   spelt_of_rrerr n = spelt_outside (is_rrerr n) (IsInRrerr n) (spelt_fields (length records) few_records (is_rrerr n) (IsInRrerr n) (in_rrerr_is n) (in_rrerr_back n))
 
-  spelt_data_bytes : (fields : List Field) → is_within_most (size_of records fields) ≡ true → Spelt (spec.data_bytes records strings bricks fields) block_spelling (λ x. HaveSize records fields (length x) × AreBytes x)
-  spelt_data_bytes fields most = spelt_sized (word (where_true (is_size (size_of records fields)))) (HaveSize records fields)
-      (spelt_same (word (where_true (is_size (size_of records fields)))) word_bytes word_bytes (λ n. (n < 2 ^ 16) × (is_size (size_of records fields) n ≡ true)) (HaveSize records fields) (spelt_test (is_size (size_of records fields))) (λ n h. refl)
-      (λ n h. is_size_has records fields n most h.1) (λ n h. let few = h.1 in (omega arith, has_is_size records fields n h))) (λ n h. let few = h.1 in omega arith)
+  spelt_data_bytes : (fields : List Field) → is_within_most (size_of records fields) ≡ true → Spelt (spec.data_bytes records strings bricks fields) block_spelling (λ x. HaveBytes records fields (length x) × AreBytes x)
+  spelt_data_bytes fields most = spelt_sized (word (where_true (is_size (size_of records fields)))) (HaveBytes records fields)
+      (spelt_same (word (where_true (is_size (size_of records fields)))) word_bytes word_bytes (λ n. (n < 2 ^ 16) × (is_size (size_of records fields) n ≡ true)) (HaveBytes records fields) (spelt_test (is_size (size_of records fields))) (λ n h. refl)
+      (λ n h. is_size_has records fields n most h.1) (λ n h. (few_bytes n h, has_is_size records fields n h))) few_bytes
+    where
+      few_bytes : (n : ℕ) → HaveBytes records fields n → n < 2 ^ 16
+      few_bytes n h = let few = h.1.1 in let same = h.2 in omega arith
 
   abbrev made_data : List Field → List ℕ → List Relocation → DataContent
   made_data fs bs rs = record { fields = fs; bytes = bs; relocations = rs }
@@ -158,11 +161,11 @@ module _ (records : List RecordDef) (strings bricks : ℕ) (few_records : length
       let made : List Field → List ℕ → Format DataContent = λ fs bs. spec.relocations_format records strings bricks 2 (length bs) >>= (λ rs. nothing (made_data fs bs rs)) in
       let fits_bytes : List Field → List ℕ → DataContent → Type 0 = λ fs bs d. HaveRelocationRanges strings bricks 2 (length bs) d.relocations × (made_data fs bs d.relocations ≡ d) in
       let behind : List Field → Format DataContent = λ fs. spec.data_bytes records strings bricks fs >>= made fs in
-      let fits : List Field → DataContent → Type 0 = λ fs d. (HaveSize records fs (length d.bytes) × AreBytes d.bytes) × fits_bytes fs d.bytes d in
+      let fits : List Field → DataContent → Type 0 = λ fs d. (HaveBytes records fs (length d.bytes) × AreBytes d.bytes) × fits_bytes fs d.bytes d in
       let spelt_behind : (fs : List Field) → is_within_most (size_of records fs) ≡ true → Spelt (behind fs) (λ d. block_spelling d.bytes ++ relocations_spelling d.relocations) (fits fs) =
-      λ fs most. spelt_then (spec.data_bytes records strings bricks fs) block_spelling (λ x. HaveSize records fs (length x) × AreBytes x) (spelt_data_bytes fs most) (made fs) (λ d. relocations_spelling d.relocations) (fits_bytes fs) (λ d. d.bytes)
+      λ fs most. spelt_then (spec.data_bytes records strings bricks fs) block_spelling (λ x. HaveBytes records fs (length x) × AreBytes x) (spelt_data_bytes fs most) (made fs) (λ d. relocations_spelling d.relocations) (fits_bytes fs) (λ d. d.bytes)
       (λ bs k. spelt_made (spec.relocations_format records strings bricks 2 (length bs)) relocations_spelling (HaveRelocationRanges strings bricks 2 (length bs))
-      (let few = k.0.1 in spelt_data_relocations records strings bricks few_strings few_bricks (length bs) (omega arith)) (made_data fs bs) (λ d. d.relocations) (λ rs. refl))
+      (let few = k.0.1.1 in let same = k.0.2 in spelt_data_relocations records strings bricks few_strings few_bricks (length bs) (omega arith)) (made_data fs bs) (λ d. d.relocations) (λ rs. refl))
       (λ bs d h. ap (λ (y : DataContent). y.bytes) h.1) in
       spelt_same (spec.data_format records strings bricks) data_spelling data_spelling (λ d. (HaveFieldRanges (length records) IsNoLabel d.fields × (is_within_most (size_of records d.fields) ≡ true)) × fits d.fields d) (HasDataRanges records strings bricks)
       (spelt_then (spec.data_fields records strings bricks false) fields_spelling (λ fs. HaveFieldRanges (length records) IsNoLabel fs × (is_within_most (size_of records fs) ≡ true))
@@ -170,7 +173,7 @@ module _ (records : List RecordDef) (strings bricks : ℕ) (few_records : length
       (λ fs d h. ap (λ (y : DataContent). y.fields) h.1.1))
       (λ d h. refl)
       (λ d h. record { fields = h.0.0; size = h.1.0.0; each_byte = h.1.0.1; relocations = h.1.1.0 })
-      (λ d h. ((h.fields, has_size_within records d.fields (length d.bytes) h.size), ((h.size, h.each_byte), (h.relocations, refl))))
+      (λ d h. ((h.fields, has_size_within records d.fields h.size.0 h.size.1), ((h.size, h.each_byte), (h.relocations, refl))))
 
   -- ---- what a brick holds
 
@@ -234,7 +237,7 @@ module _ (records : List RecordDef) (strings bricks : ℕ) (few_records : length
   IsExternal sort e = (sort ≡ external_tag e) × HasExternalRanges records strings bricks e
 
   spelt_external : (sort : Sort) → Spelt (spec.external_format records strings bricks sort) external_spelling (IsExternal sort)
-  spelt_external sorts.Proc = spelt_variant (passing is_proc (spec.mode records strings bricks)) spelling IsProcOf (spelt_proc_mode (length records) few_records) external.Proc external_spelling (IsExternal sorts.Proc) (λ m. refl) (λ m h. (refl, h)) from
+  spelt_external sorts.Proc = spelt_variant (beginning is_proc_code (spec.mode records strings bricks)) spelling IsProcOf (spelt_proc_mode (length records) few_records) external.Proc external_spelling (IsExternal sorts.Proc) (λ m. refl) (λ m h. (refl, h)) from
     where
       from : (e : External) → IsExternal sorts.Proc e → (m : Mode) × (IsProcOf m × (external.Proc m ≡ e))
       from (external.Proc m) h = (m, (h.1, refl))
@@ -258,7 +261,7 @@ module _ (records : List RecordDef) (strings bricks : ℕ) (few_records : length
   IsSupplied n sort s = (sort ≡ supplied_tag s) × HasSuppliedRanges records strings bricks n s
 
   spelt_supplied : (n : List ℕ) (sort : Sort) → (sort ≡ sorts.Stack → ⊥) → Spelt (spec.supplied_format records strings bricks n sort) supplied_spelling (IsSupplied n sort)
-  spelt_supplied n sorts.Proc other = spelt_variant (passing is_proc (spec.mode records strings bricks)) spelling IsProcOf (spelt_proc_mode (length records) few_records) supplied.Proc supplied_spelling (IsSupplied n sorts.Proc) (λ m. refl) (λ m h. (refl, h)) from
+  spelt_supplied n sorts.Proc other = spelt_variant (beginning is_proc_code (spec.mode records strings bricks)) spelling IsProcOf (spelt_proc_mode (length records) few_records) supplied.Proc supplied_spelling (IsSupplied n sorts.Proc) (λ m. refl) (λ m h. (refl, h)) from
     where
       from : (s : Supplied) → IsSupplied n sorts.Proc s → (m : Mode) × (IsProcOf m × (supplied.Proc m ≡ s))
       from (supplied.Proc m) h = (m, (h.1, refl))

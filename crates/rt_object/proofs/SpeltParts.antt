@@ -14,9 +14,10 @@ use Rattle.rt_modes.specs.declared.mode.Field.{Field}
 use Rattle.rt_modes.specs.declared.mode.Mode.{Mode, out-Mode}
 use Rattle.rt_modes.specs.declared.mode.Mode.TheOpen.{Mode-F}
 use Rattle.rt_modes.specs.declared.mode.RecordDef.{RecordDef}
-use Rattle.rt_object.specs.Grammar.{is_no_label_layer, is_no_label, may_be, is_rrerr, is_proc_layer, is_proc, is_value_layer, is_value, size_of, is_within_most, is_size, is_behind, is_place}
+use Rattle.rt_sizes.specs.Sizes.{even}
+use Rattle.rt_object.specs.Grammar.{is_no_label_layer, is_no_label, may_be, is_rrerr, is_proc_layer, is_proc_code, is_value_layer, is_value_code, begins, beginning, size_of, is_within_most, is_size, is_behind, is_place}
 use Rattle.rt_object.specs.Grammar as spec
-use Rattle.rt_object.specs.Ranges.{IsByte, IsWord, IsName, IsCounted, AreDifferent, Rise, IsLabel, IsProcLayer, IsProcMode, IsValueLayer, IsValueMode, IsNoLabel, field_names, HaveFieldRanges, HasRecordRanges, table_of, HaveSize, IsNamed, HaveRelocationRanges}
+use Rattle.rt_object.specs.Ranges.{IsByte, IsWord, IsName, IsCounted, AreDifferent, Rise, IsLabel, IsProcLayer, IsProcMode, IsValueLayer, IsValueMode, IsNoLabel, field_names, HaveFieldRanges, HasRecordRanges, table_of, HaveSize, HaveBytes, IsNamed, HaveRelocationRanges}
 use Rattle.rt_object.specs.Ranges as ranges
 use Rattle.rt_object.specs.Spelling.{counted_spelling, field_spelling, fields_spelling, record_spelling, block_spelling, relocated_spelling, relocation_spelling, relocations_spelling, target_spelling, call_spelling}
 use Rattle.rt_object.specs.declared.object.Call.{Call}
@@ -29,8 +30,9 @@ use Rattle.rt_object.specs.declared.tag.Called.{Called}
 use Rattle.rt_object.specs.declared.tag.Called.TheVariants as callees
 use Rattle.rt_object.specs.declared.tag.Named.{Named}
 use Rattle.rt_object.specs.declared.tag.Named.TheVariants as namings
+use Rattle.rt_object.proofs.Beginning.{spelt_beginning}
 use Rattle.rt_object.proofs.Depth.{end_is_size, size_is_end}
-use Rattle.rt_object.proofs.ModeBytes.{mode_bytes}
+use Rattle.rt_object.proofs.ModeBytes.{mode_bytes, code_in, coded, begins_coded}
 use Rattle.rt_object.proofs.Differing.{either_way, no_names, Fresh, fresh_all, all_fresh, no_numbers, Later, later_all, all_later}
 use Rattle.rt_object.proofs.Spelt.{few_spelled, Spelt, spelt_name, spelt_block, spelt_same, spelt_passing, spelt_any, spelt_within, spelt_below, spelt_test, spelt_code, spelt_nothing, spelt_then, spelt_made, spelt_counted, spelt_list, both_true}
 
@@ -116,13 +118,45 @@ value_back (Mode-F.Array n m) h = absurd h
 value_back (Mode-F.Record k) h = refl
 value_back (Mode-F.Proc ps r) h = refl
 
-pub spelt_proc_mode : (records : ℕ) → records ≤ 2 ^ 16 → Spelt (passing is_proc (mode_format records)) spelling (λ m. MayStand records m × IsProcMode m)
-spelt_proc_mode records small = spelt_same (passing is_proc (mode_format records)) spelling spelling (λ m. MayStand records m × (is_proc m ≡ true)) (λ m. MayStand records m × IsProcMode m)
-    (spelt_passing is_proc (mode_format records) spelling (MayStand records) (spelt_mode records small)) (λ m h. refl) (λ m h. (h.0, proc_is (out-Mode m) h.1)) (λ m h. (h.0, proc_back (out-Mode m) h.1))
+-- the code of a mode says whether it is that of a procedure, or of a value
+proc_coded : (l : Mode-F Mode) → is_proc_code (code_in l) ≡ is_proc_layer l
+proc_coded Mode-F.Label = refl
+proc_coded Mode-F.Byte = refl
+proc_coded Mode-F.Int = refl
+proc_coded Mode-F.Frac = refl
+proc_coded (Mode-F.Ref m) = refl
+proc_coded (Mode-F.RefArray m) = refl
+proc_coded (Mode-F.Array n m) = refl
+proc_coded (Mode-F.Record k) = refl
+proc_coded (Mode-F.Proc ps r) = refl
 
-pub spelt_value_mode : (records : ℕ) → records ≤ 2 ^ 16 → Spelt (passing is_value (mode_format records)) spelling (λ m. MayStand records m × IsValueMode m)
-spelt_value_mode records small = spelt_same (passing is_value (mode_format records)) spelling spelling (λ m. MayStand records m × (is_value m ≡ true)) (λ m. MayStand records m × IsValueMode m)
-    (spelt_passing is_value (mode_format records) spelling (MayStand records) (spelt_mode records small)) (λ m h. refl) (λ m h. (h.0, value_is (out-Mode m) h.1)) (λ m h. (h.0, value_back (out-Mode m) h.1))
+value_coded : (l : Mode-F Mode) → is_value_code (code_in l) ≡ is_value_layer l
+value_coded Mode-F.Label = refl
+value_coded Mode-F.Byte = refl
+value_coded Mode-F.Int = refl
+value_coded Mode-F.Frac = refl
+value_coded (Mode-F.Ref m) = refl
+value_coded (Mode-F.RefArray m) = refl
+value_coded (Mode-F.Array n m) = refl
+value_coded (Mode-F.Record k) = refl
+value_coded (Mode-F.Proc ps r) = refl
+
+proc_begins : (m : Mode) → begins is_proc_code (spelling m) ≡ is_proc_layer (out-Mode m)
+proc_begins m = begins_coded is_proc_code m ∙ proc_coded (out-Mode m)
+
+value_begins : (m : Mode) → begins is_value_code (spelling m) ≡ is_value_layer (out-Mode m)
+value_begins m = begins_coded is_value_code m ∙ value_coded (out-Mode m)
+
+spelt_begun : (test : ℕ → Bool) (records : ℕ) → records ≤ 2 ^ 16 → Spelt (beginning test (mode_format records)) spelling (λ m. MayStand records m × (begins test (spelling m) ≡ true))
+spelt_begun test records small = spelt_beginning test (mode_format records) spelling (MayStand records) (λ m. let k = coded m in (code_in (out-Mode m), k.0, k.1)) (spelt_mode records small)
+
+pub spelt_proc_mode : (records : ℕ) → records ≤ 2 ^ 16 → Spelt (beginning is_proc_code (mode_format records)) spelling (λ m. MayStand records m × IsProcMode m)
+spelt_proc_mode records small = spelt_same (beginning is_proc_code (mode_format records)) spelling spelling (λ m. MayStand records m × (begins is_proc_code (spelling m) ≡ true)) (λ m. MayStand records m × IsProcMode m)
+    (spelt_begun is_proc_code records small) (λ m h. refl) (λ m h. (h.0, proc_is (out-Mode m) (sym (proc_begins m) ∙ h.1))) (λ m h. (h.0, proc_begins m ∙ proc_back (out-Mode m) h.1))
+
+pub spelt_value_mode : (records : ℕ) → records ≤ 2 ^ 16 → Spelt (beginning is_value_code (mode_format records)) spelling (λ m. MayStand records m × IsValueMode m)
+spelt_value_mode records small = spelt_same (beginning is_value_code (mode_format records)) spelling spelling (λ m. MayStand records m × (begins is_value_code (spelling m) ≡ true)) (λ m. MayStand records m × IsValueMode m)
+    (spelt_begun is_value_code records small) (λ m h. refl) (λ m h. (h.0, value_is (out-Mode m) (sym (value_begins m) ∙ h.1))) (λ m h. (h.0, value_begins m ∙ value_back (out-Mode m) h.1))
 
 -- ---- a name that others lack
 
@@ -212,19 +246,19 @@ module _ (records : List RecordDef) where
   pub has_size_within : (fields : List Field) (n : ℕ) → HaveSize records fields n → is_within_most (size_of records fields) ≡ true
   has_size_within fields n h = subst (λ o. is_within_most o ≡ true) (sym (end_is_size records fields n h.0)) (le-leb n 57344 h.1)
 
-  size_is : (o : Option ℕ) (n : ℕ) → is_size o n ≡ true → o ≡ Some n
+  size_is : (o : Option ℕ) (n : ℕ) → is_size o n ≡ true → (m : ℕ) × (o ≡ Some m) × (n ≡ even m)
   size_is None n e = absurd cc
-  size_is (Some m) n e = ap (λ x. Some x) (eqb-true m n e)
+  size_is (Some m) n e = (m, refl, sym (eqb-true (even m) n e))
 
-  pub is_size_has : (fields : List Field) (n : ℕ) → is_within_most (size_of records fields) ≡ true → is_size (size_of records fields) n ≡ true → HaveSize records fields n
+  pub is_size_has : (fields : List Field) (n : ℕ) → is_within_most (size_of records fields) ≡ true → is_size (size_of records fields) n ≡ true → HaveBytes records fields n
   is_size_has fields n most e =
-      let same = size_is (size_of records fields) n e in (size_is_end records fields n same, leb-true n 57344 (subst (λ o. is_within_most o ≡ true) same most))
+      let k = size_is (size_of records fields) n e in (k.0, (size_is_end records fields k.0 k.1, leb-true k.0 57344 (subst (λ o. is_within_most o ≡ true) k.1 most)), k.2)
 
   same_test : (n : ℕ) → eqb n n ≡ true
   same_test n = grind (arith, nat_tests)
 
-  pub has_is_size : (fields : List Field) (n : ℕ) → HaveSize records fields n → is_size (size_of records fields) n ≡ true
-  has_is_size fields n h = subst (λ o. is_size o n ≡ true) (sym (end_is_size records fields n h.0)) (same_test n)
+  pub has_is_size : (fields : List Field) (n : ℕ) → HaveBytes records fields n → is_size (size_of records fields) n ≡ true
+  has_is_size fields n h = subst (λ o. is_size o n ≡ true) (sym (end_is_size records fields h.0 h.1.0)) (subst (λ k. eqb (even h.0) k ≡ true) (sym h.2) (same_test (even h.0)))
 
 -- ---- relocations
 

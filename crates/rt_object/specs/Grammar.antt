@@ -1,5 +1,5 @@
 -- The bytes of an object, field by field.
-use Rattle.std.specs.Prelude.{◌≡◌, ℕ, suc, ◌%◌, ◌<◌, ◌==◌, ◌⊎◌, nat_lt, nat_le, Bool, true, false, not, ◌&&◌, if◌then◌else◌, List, [], ◌∷◌, ◌++◌, length, map, codes, slice_get, Option, Some, None, take}
+use Rattle.std.specs.Prelude.{◌≡◌, ℕ, suc, ◌%◌, ◌<◌, ◌==◌, ◌⊎◌, nat_lt, nat_le, Bool, true, false, not, ◌&&◌, ◌||◌, if◌then◌else◌, List, [], ◌∷◌, ◌++◌, length, map, codes, slice_get, Option, Some, None, take}
 use Rattle.std.specs.List.{AllByRecursion, list_any}
 use Rattle.std.specs.Str.{bytes_eq}
 use Rattle.rt_words.specs.Format.{Format, Spell, AreRefusedAt, nothing, byte, word, block, tag, name, where_true, any, within, ◌>>=◌, each, times, passing}
@@ -75,6 +75,26 @@ is_value_layer _ = true
 abbrev pub is_value : Mode → Bool
 is_value m = is_value_layer (out-Mode m)
 
+-- whether the code of a mode is that of a procedure
+abbrev pub is_proc_code : ℕ → Bool
+is_proc_code b = b == 9
+
+-- whether it isn't that of an array or a label
+abbrev pub is_value_code : ℕ → Bool
+is_value_code b = not (b == 6 || b == 8)
+
+-- whether the first byte is there and passes a test
+abbrev pub begins : (ℕ → Bool) → List ℕ → Bool
+begins test [] = false
+begins test (b ∷ l) = test b
+
+-- a format whose first byte passes a test; another byte is refused, whatever stands behind it
+abbrev pub beginning : {A : Type 0} → (ℕ → Bool) → Format A → Format A
+beginning {A} test p = record {
+  Fits = λ l r x. (begins test l ≡ true) × p.Fits l r x;
+  Refuses = λ l n. (begins test l ≡ false) × (n ≡ length l) ⊎ ((begins test l ≡ true) × p.Refuses l n);
+}
+
 -- how many bytes fields over these records have, where they have a size: a record holds others less than one more deep than
 -- there are records
 abbrev pub size_of : List RecordDef → List Field → Option ℕ
@@ -84,9 +104,10 @@ abbrev pub is_within_most : Option ℕ → Bool
 is_within_most None = false
 is_within_most (Some n) = nat_le n 57344
 
+-- whether fields with such an end have so many bytes: they lie as those of a record, so the bytes are rounded up to an even number
 abbrev pub is_size : Option ℕ → ℕ → Bool
 is_size None n = false
-is_size (Some m) n = m == n
+is_size (Some m) n = sizes.even m == n
 
 -- whether a place is a multiple of step, inside a part, and behind the one before it
 abbrev pub is_behind : List Relocation → ℕ → Bool
@@ -243,7 +264,7 @@ module _ (records : List RecordDef) (strings bricks : ℕ) where
     k ← word (below bricks)
     nothing (target.Brick k)
   called_format callees.Mode = do
-    m ← passing is_value mode
+    m ← beginning is_value_code mode
     nothing (target.Mode m)
   called_format callees.Error = nothing target.Error
 
@@ -270,7 +291,7 @@ module _ (records : List RecordDef) (strings bricks : ℕ) where
   -- PROC: mode, items, locals, deep (words), calls, code, relocs
   abbrev pub proc_format : Format ProcContent
   proc_format = do
-    m ← passing is_proc mode
+    m ← beginning is_proc_code mode
     items ← word any
     locals ← word any
     deep ← word any
@@ -282,7 +303,7 @@ module _ (records : List RecordDef) (strings bricks : ℕ) where
   abbrev pub data_fields : Bool → Format (List Field)
   data_fields labels = passing (λ fields. is_within_most (size_of records fields)) (fields_format (length records) labels)
 
-  -- so many bytes as the fields have
+  -- so many bytes as the fields take
   abbrev pub data_bytes : List Field → Format (List ℕ)
   data_bytes fields = do
     size ← word (where_true (is_size (size_of records fields)))
@@ -309,7 +330,7 @@ module _ (records : List RecordDef) (strings bricks : ℕ) where
 
   abbrev pub external_format : Sort → Format External
   external_format sorts.Proc = do
-    m ← passing is_proc mode
+    m ← beginning is_proc_code mode
     nothing (external.Proc m)
   external_format sorts.Data = do
     fields ← data_fields false
@@ -318,7 +339,7 @@ module _ (records : List RecordDef) (strings bricks : ℕ) where
 
   abbrev pub supplied_format : List ℕ → Sort → Format Supplied
   supplied_format n sorts.Proc = do
-    m ← passing is_proc mode
+    m ← beginning is_proc_code mode
     nothing (supplied.Proc m)
   supplied_format n _ = do
     fields ← data_fields (is_rrerr n)

@@ -7,7 +7,7 @@ use Rattle.rt_modes.specs.declared.mode.Mode.TheOpen.{Mode-F}
 use Rattle.rt_modes.specs.declared.mode.RecordDef.{RecordDef}
 use Rattle.rt_modes.specs.Spelling.{MayStand}
 use Rattle.rt_sizes.specs.Containing.{Contains}
-use Rattle.rt_sizes.specs.Sizes.{Table, End, RecordHasSize}
+use Rattle.rt_sizes.specs.Sizes.{Table, End, RecordHasSize, even}
 use Rattle.rt_words.specs.Named.{IsNameLength}
 use Rattle.rt_object.specs.declared.object.Brick.{Brick}
 use Rattle.rt_object.specs.declared.object.BrickKind.{BrickKind}
@@ -115,6 +115,10 @@ pub record HaveRecordRanges (records : List RecordDef) : Type 0 where
 abbrev pub HaveSize : List RecordDef → List Field → ℕ → Type 0
 HaveSize records fields n = End (table_of records) fields n × (n ≤ 57344)
 
+-- fields of a data brick that take so many bytes: they lie as those of a record do, so these are rounded up to an even number
+abbrev pub HaveBytes : List RecordDef → List Field → ℕ → Type 0
+HaveBytes records fields n = (size : ℕ) × HaveSize records fields size × (n ≡ even size)
+
 -- ---- relocations
 
 -- what is named is there, among so many strings and bricks
@@ -164,7 +168,7 @@ module _ (records : List RecordDef) (strings bricks : ℕ) where
 
   pub record HasDataRanges (d : DataContent) : Type 0 where
     pub fields : HaveFieldRanges (length records) IsNoLabel d.fields
-    pub size : HaveSize records d.fields (length d.bytes)
+    pub size : HaveBytes records d.fields (length d.bytes)
     pub each_byte : AllByRecursion IsByte d.bytes
     pub relocations : HaveRelocationRanges strings bricks 2 (length d.bytes) d.relocations
 

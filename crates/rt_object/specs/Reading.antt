@@ -1,5 +1,5 @@
 -- The parts of an object as functions from the bytes that stand there.
-use Rattle.std.specs.Prelude.{ℕ, Bool, false, List, [], length, map}
+use Rattle.std.specs.Prelude.{ℕ, Bool, false, if◌then◌else◌, List, [], length, map, Err}
 use Rattle.rt_words.specs.Format.{where_true, any, within}
 use Rattle.rt_words.specs.Reading.{Reader, nothing, byte, word, block, name, ◌>>=◌, each, times, passing}
 use Rattle.rt_modes.specs.Reading as modes
@@ -25,7 +25,7 @@ use Rattle.rt_object.specs.declared.object.Supplied.{Supplied}
 use Rattle.rt_object.specs.declared.object.Supplied.TheVariants as supplied
 use Rattle.rt_object.specs.declared.object.Target.{Target}
 use Rattle.rt_object.specs.declared.object.Target.TheVariants as target
-use Rattle.rt_object.specs.Grammar.{is_new, is_proc, is_value, size_of, is_within_most, is_size, is_place, is_taken, kind_of, sort_in, called_of, named_of, below, is_rrerr, may_be}
+use Rattle.rt_object.specs.Grammar.{is_new, is_proc_code, is_value_code, begins, size_of, is_within_most, is_size, is_place, is_taken, kind_of, sort_in, called_of, named_of, below, is_rrerr, may_be}
 use Rattle.rt_object.specs.declared.tag.Called.{Called}
 use Rattle.rt_object.specs.declared.tag.Kind.{Kind}
 use Rattle.rt_object.specs.declared.tag.Named.{Named}
@@ -34,6 +34,10 @@ use Rattle.rt_object.specs.declared.tag.Called.TheVariants as callees
 use Rattle.rt_object.specs.declared.tag.Kind.TheVariants as kinds
 use Rattle.rt_object.specs.declared.tag.Named.TheVariants as namings
 use Rattle.rt_object.specs.declared.tag.Sort.TheVariants as sorts
+
+-- what begins with a byte that passes a test
+abbrev pub beginning : {A : Type 0} → (ℕ → Bool) → Reader A → Reader A
+beginning test p = λ l. if begins test l then p l else Err (length l)
 
 -- a mode over so many records
 abbrev pub mode_in : ℕ → Reader Mode
@@ -134,7 +138,7 @@ module _ (records : List RecordDef) (strings bricks : ℕ) where
     k ← word (below bricks)
     nothing (target.Brick k)
   called_reader callees.Mode = do
-    m ← passing is_value mode
+    m ← beginning is_value_code mode
     nothing (target.Mode m)
   called_reader callees.Error = nothing target.Error
 
@@ -171,7 +175,7 @@ module _ (records : List RecordDef) (strings bricks : ℕ) where
   -- PROC: mode, items, locals, deep (words), calls, code, relocs
   unfoldable pub proc_reader : Reader ProcContent
   proc_reader = do
-    m ← passing is_proc mode
+    m ← beginning is_proc_code mode
     items ← word any
     locals ← word any
     deep ← word any
@@ -183,7 +187,7 @@ module _ (records : List RecordDef) (strings bricks : ℕ) where
   unfoldable pub data_fields : Bool → Reader (List Field)
   data_fields labels = passing (λ fields. is_within_most (size_of records fields)) (fields_reader (length records) labels)
 
-  -- so many bytes as the fields have
+  -- so many bytes as the fields take
   unfoldable pub data_bytes : List Field → Reader (List ℕ)
   data_bytes fields = do
     size ← word (where_true (is_size (size_of records fields)))
@@ -210,7 +214,7 @@ module _ (records : List RecordDef) (strings bricks : ℕ) where
 
   unfoldable pub external_reader : Sort → Reader External
   external_reader sorts.Proc = do
-    m ← passing is_proc mode
+    m ← beginning is_proc_code mode
     nothing (external.Proc m)
   external_reader sorts.Data = do
     fields ← data_fields false
@@ -219,7 +223,7 @@ module _ (records : List RecordDef) (strings bricks : ℕ) where
 
   unfoldable pub supplied_reader : List ℕ → Sort → Reader Supplied
   supplied_reader n sorts.Proc = do
-    m ← passing is_proc mode
+    m ← beginning is_proc_code mode
     nothing (supplied.Proc m)
   supplied_reader n _ = do
     fields ← data_fields (is_rrerr n)

@@ -8,6 +8,7 @@ ghost use Rattle.rt_object.specs.Grammar.{is_size, is_within_most, size_of};
 ghost use Rattle.rt_object.specs.Ranges.{table_of};
 ghost use Rattle.rt_object.specs.Reading as reads;
 ghost use Rattle.rt_sizes.specs.Capped.{AreSizes};
+ghost use Rattle.rt_sizes.specs.Sizes.{even};
 
 use crate::fields::read_fields;
 use crate::known::Known;
@@ -73,7 +74,7 @@ fn are_within_most(known: &Known<'_>, fields: &[Field]) -> bool
     }
 }
 
-/// So many bytes as the fields have.
+/// So many bytes as the fields take.
 #[tactic(auto, unfolding(crate::specs::Reading::data_bytes))]
 fn read_data_bytes<'b>(
     alloc: Global,
@@ -90,7 +91,7 @@ fn read_data_bytes<'b>(
     Ok((Bytes::from_slice(alloc, bytes)?, rest))
 }
 
-/// How many bytes fields have.
+/// How many bytes fields take.
 fn read_size<'b>(
     known: &Known<'_>,
     fields: &[Field],
@@ -112,8 +113,16 @@ fn is_size(known: &Known<'_>, fields: &[Field], size: u16) -> bool
     ensures { result ≡ is_size (size_of known.now.records.now fields.now) size }
 {
     match data_size(known.sizes, fields) {
-        Some(Size::Bytes(wanted)) => wanted == size,
+        Some(Size::Bytes(end)) => even(end) == usize::from(size),
         Some(Size::TooLarge) => false,
         None => false,
     }
+}
+
+/// How many bytes a data brick takes whose fields end behind so many: they lie as those of a record do, so the number is
+/// rounded up to an even one.
+pub fn even(end: u16) -> usize
+    ensures { result ≡ even end }
+{
+    usize::from(end) + usize::from(end % 2)
 }

@@ -27,6 +27,7 @@ mod write_bricks;
 
 pub use bad::{first_bad, sizes_of};
 pub use bricks::is_rrerr;
+pub use data::even;
 pub use fault::ObjectFault;
 pub use known::Known;
 pub use laws::{no_image_is_an_object, objects_are_spelled, objects_are_told};

@@ -3,7 +3,7 @@
 ghost use Rattle.std.specs.Prelude.{◌≡◌};
 ghost use Rattle.rt_words.specs.Reading as formats;
 ghost use Rattle.rt_words.specs.Reading.{Gives};
-ghost use Rattle.rt_object.specs.Grammar.{is_no_label, is_proc, is_value, may_be};
+ghost use Rattle.rt_object.specs.Grammar.{is_no_label, is_proc, is_proc_code, is_value, is_value_code, may_be};
 ghost use Rattle.rt_object.specs.Reading as reads;
 
 use crate::steps::passing;
@@ -36,22 +36,38 @@ pub fn read_field_mode(
     passing(passes, mode, rest, bytes.len())
 }
 
-/// The mode of a procedure.
+/// The mode of a procedure. Another is refused at its code, whatever stands inside it.
 pub fn read_proc_mode(alloc: Global, records: u16, bytes: &[u8]) -> Result<(Mode, &[u8]), Stop>
-    ensures { Gives (λ x. (x.0, x.1.now)) result (formats.passing is_proc (reads.mode_in records) bytes.now) }
+    ensures { Gives (λ x. (x.0, x.1.now)) result (reads.beginning is_proc_code (reads.mode_in records) bytes.now) }
 {
-    let (mode, rest) = read_front_mode(alloc, records, bytes)?;
-    let passes = is_proc(&mode);
-    passing(passes, mode, rest, bytes.len())
+    match bytes.split_first() {
+        Some((&code, _)) if is_proc_code(code) => read_front_mode(alloc, records, bytes),
+        _ => Err(Stop::Refused(bytes.len())),
+    }
 }
 
-/// The mode of a value that stands alone.
+/// The mode of a value that stands alone. Another is refused at its code, whatever stands inside it.
 pub fn read_value_mode(alloc: Global, records: u16, bytes: &[u8]) -> Result<(Mode, &[u8]), Stop>
-    ensures { Gives (λ x. (x.0, x.1.now)) result (formats.passing is_value (reads.mode_in records) bytes.now) }
+    ensures { Gives (λ x. (x.0, x.1.now)) result (reads.beginning is_value_code (reads.mode_in records) bytes.now) }
 {
-    let (mode, rest) = read_front_mode(alloc, records, bytes)?;
-    let passes = is_value(&mode);
-    passing(passes, mode, rest, bytes.len())
+    match bytes.split_first() {
+        Some((&code, _)) if is_value_code(code) => read_front_mode(alloc, records, bytes),
+        _ => Err(Stop::Refused(bytes.len())),
+    }
+}
+
+/// Whether the code of a mode is that of PROC.
+fn is_proc_code(code: u8) -> bool
+    ensures { result ≡ is_proc_code code }
+{
+    code == 9
+}
+
+/// Whether the code of a mode is not that of ARRAY or LABEL.
+fn is_value_code(code: u8) -> bool
+    ensures { result ≡ is_value_code code }
+{
+    !(code == 6 || code == 8)
 }
 
 /// Whether a mode is no label.

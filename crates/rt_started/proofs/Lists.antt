@@ -438,10 +438,10 @@ module _ (S : ℕ → Option ℕ) (value : Datum → ℕ) (word : Relocation →
         record { inside_it = all.goes.inside; long = (let q = all.ends in omega arith); each = λ k x f a at has off. subst (λ (n : ℕ). AllIs (view word (bytes.fields (writ xs) fs bytes.nothing)) n f.mode x) (let n : 0 + a ≡ a = omega arith in n) (all.each k x f a at has off) }
 
     pub items_shown : (ss : List DataStart) (fs : List Field) (total : ℕ) → fields_start (map (modules.starts c) ss) fs ≡ true → Words (joined (map numbers_in ss)) → fields_end S fs 0 ≡ Some total
-        → ShowsItems (bytes.data_of l c fs ss) fs (starting.parts (map (starting.starts h) ss) fs) total
+        → ShowsItems (bytes.fields (map (bytes.starts l c) ss) fs bytes.nothing) fs (starting.parts (map (starting.starts h) ss) fs) total
     items_shown ss fs total fits w end =
         let e = firsts_are ss in
-        subst (λ (xs : List DataStart). ShowsItems (bytes.data_of l c fs xs) fs (starting.parts (map (starting.starts h) xs) fs) total) e
+        subst (λ (xs : List DataStart). ShowsItems (bytes.fields (map (bytes.starts l c) xs) fs bytes.nothing) fs (starting.parts (map (starting.starts h) xs) fs) total) e
         (items_by (pairs ss) fs total (subst (λ (xs : List DataStart). fields_start (map (modules.starts c) xs) fs ≡ true) (sym e) fits) (subst (λ (xs : List DataStart). Words (joined (map numbers_in xs))) (sym e) w) end tt)
 
 -- ---- rounded up
@@ -454,17 +454,26 @@ padded_by word rs xs false e i =
     let long : length (xs ++ 0 ∷ []) ≡ length xs + 1 = length-append xs (0 ∷ []) in
     (0 ∷ [], patched_left word rs xs (0 ∷ []) i, omega arith)
 
+-- an even number is its own
+even_stays : (n : ℕ) → sizes.even (sizes.even n) ≡ sizes.even n
+even_stays n = omega arith
+
 pub data_show : DataShowStarts
 data_show S value word l h ss fs total are res procs fits w end =
+    let items = bytes.fields (map (bytes.starts l h.scope) ss) fs bytes.nothing in
     let d = bytes.data_of l h.scope fs ss in
     let shown = items_shown S value word l h are res procs ss fs total fits w end in
-    let more = padded_by word d.relocations d.bytes (length d.bytes % 2 == 0) refl shown.inside_it in
+    let closed = even_goes word items shown.inside_it in
+    let more = padded_by word d.relocations d.bytes (length d.bytes % 2 == 0) refl closed.1.inside in
     let long : length (view word d) ≡ length d.bytes = view_length word d in
-    let total_is : length (view word d) ≡ total = shown.long in
+    let total_is : length (view word items) ≡ total = shown.long in
+    let even_is : length (view word d) ≡ sizes.even total = closed.2 ∙ ap sizes.even total_is in
     record {
-      long = patched_length word d.relocations (padded d.bytes) ∙ more.2 ∙ ap sizes.even (sym long ∙ total_is);
+      long = patched_length word d.relocations (padded d.bytes) ∙ more.2 ∙ ap sizes.even (sym long ∙ even_is) ∙ even_stays total;
       each = λ k x f a at has off.
           let its = is_sized S fs k 0 total f end has in
           let bound : a + its.0 ≤ total = ends_within S fs k 0 a its.0 total f off has its.1 end in
-          subst (λ (ys : List ℕ). AllShown value h.scope.records S ys a f.mode x) (sym more.1) (all_stay h.scope.records S are value f.mode (view word d) more.0 a its.0 x its.1 (omega arith) (shown.each k x f a at has off));
+          let first : AllShown value h.scope.records S (view word items ++ closed.0) a f.mode x = all_stay h.scope.records S are value f.mode (view word items) closed.0 a its.0 x its.1 (omega arith) (shown.each k x f a at has off) in
+          let second : AllShown value h.scope.records S (view word d) a f.mode x = subst (λ (ys : List ℕ). AllShown value h.scope.records S ys a f.mode x) (sym closed.1.view_is) first in
+          subst (λ (ys : List ℕ). AllShown value h.scope.records S ys a f.mode x) (sym more.1) (all_stay h.scope.records S are value f.mode (view word d) more.0 a its.0 x its.1 (omega arith) second);
     }

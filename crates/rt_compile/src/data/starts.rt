@@ -32,6 +32,7 @@ pub fn data_of(
 {
     let mut out = Data::nothing(alloc);
     put_fields(layouts, scope, starts, fields, &mut out)?;
+    out.put_even()?;
     Ok(out)
 }
 

@@ -1,4 +1,5 @@
-use Rattle.std.proofs.Common.{sym, ap, ◌∙◌, Some}
+use Rattle.std.proofs.Common.{◌≡◌, ◌==◌, sym, ap, ◌∙◌, Some, arith}
+use Rattle.rt_sizes.specs.Sizes.{even}
 use Rattle.rt_object.specs.Grammar.{is_size}
 use Rattle.rt_object.specs.Ranges.{table_of}
 use Rattle.rt_object.proofs.KnownSizes.{are_within, within_is_false}
@@ -7,7 +8,10 @@ use Rattle.rt_object.proofs.data.is_size.Goals as goal
 pub returns-in-Some-Bytes : goal.returns-in-Some-Bytes
 returns-in-Some-Bytes c =
     let t = table_of c.args.known.now.records.now in
-    sym (ap (λ o. is_size o c.args.size) (are_within c.args.known.now.records.now c.args.fields.now c.data_size.result c.in-Some-Bytes.wanted (c.in-Some-Bytes.is ∙ ap (λ s. Some s) c.in-Some-Bytes.field-0-is) (c.data_size.ensures.size t c.requires.sizes)))
+    let end = c.in-Some-Bytes.end in
+    let is = are_within c.args.known.now.records.now c.args.fields.now c.data_size.result end (c.in-Some-Bytes.is ∙ ap (λ s. Some s) c.in-Some-Bytes.field-0-is) (c.data_size.ensures.size t c.requires.sizes) in
+    let size : c.from.result ≡ c.args.size = omega arith in
+    ap (λ n. n == c.from.result) c.even.ensures ∙ ap (λ n. even end == n) size ∙ sym (ap (λ o. is_size o c.args.size) is)
 
 pub returns-in-Some-TooLarge : goal.returns-in-Some-TooLarge
 returns-in-Some-TooLarge c =
