@@ -1,53 +1,52 @@
 //! Records that contain themselves, and records that are too large.
 
-ghost use Rattle.std.specs.Prelude.{◌≡◌, List, Bool, Some, slice_get, IfOk};
+ghost use Rattle.std.specs.Prelude.{◌≡◌, List, Bool, Some, slice_get};
 ghost use Rattle.rt_bricks.specs.declared.tree.RecordMode.{RecordMode};
 ghost use Rattle.rt_modes.specs.FullMode.{fields_in};
 ghost use Rattle.rt_check_declared.specs.Heads as spec;
 ghost use Rattle.rt_check_declared.specs.Heads.{whole};
 ghost use Rattle.rt_check_declared.specs.Records.{Counts, ModeFault, RecordFault, definition};
 ghost use Rattle.rt_sizes.specs.Capped.{AreSizes, table};
+ghost use Rattle.rt_sizes.specs.Rings.{AreRings};
 ghost use Rattle.rt_check_declared.specs.Written.{Names};
 
 use crate::records::{Head, either};
 use rt_check_faults::CheckFault;
 use rt_grammar::At;
 use rt_modes::{Field, RecordDef};
-use rt_sizes::{Size, contains_itself, passing_field};
-use rt_words::Memory;
-use std::alloc::Global;
+use rt_sizes::{Size, is_ring, passing_field};
 
-/// The fault that counts of a MODE, by the number of its record.
+/// The fault that counts of a MODE, by the number of its record; `rings` marks the records that contain themselves.
 pub fn judge_record(
-    alloc: Global,
     records: &[RecordDef],
     sizes: &[Option<Size>],
+    rings: &[bool],
     number: usize,
     head: &Head,
-) -> Result<Option<CheckFault>, Memory>
-    ensures { (names : Names) → (known : List Bool) → (r : RecordMode) → AreSizes (table records.now known) sizes.now → head.now ≡ spec.head names r → slice_get records.now number ≡ Some (definition names r) → IfOk result (Counts (RecordFault names (table records.now known) number r)) }
+) -> Option<CheckFault>
+    ensures { (names : Names) → (known : List Bool) → (r : RecordMode) → AreSizes (table records.now known) sizes.now → AreRings records.now rings.now → head.now ≡ spec.head names r → slice_get records.now number ≡ Some (definition names r) → Counts (RecordFault names (table records.now known) number r) result }
 {
-    let fault = judge_modes(alloc, records, sizes, number, head)?;
-    Ok(either(fault, head.second))
+    let fault = judge_modes(records, sizes, rings, number, head);
+    either(fault, head.second)
 }
 
 /// The fault that counts of the modes of a MODE's fields and of the record as a whole.
 fn judge_modes(
-    alloc: Global,
     records: &[RecordDef],
     sizes: &[Option<Size>],
+    rings: &[bool],
     number: usize,
     head: &Head,
-) -> Result<Option<CheckFault>, Memory>
-    ensures { (names : Names) → (known : List Bool) → (r : RecordMode) → AreSizes (table records.now known) sizes.now → head.now ≡ spec.head names r → slice_get records.now number ≡ Some (definition names r) → IfOk result (Counts (ModeFault names (table records.now known) number r)) }
+) -> Option<CheckFault>
+    ensures { (names : Names) → (known : List Bool) → (r : RecordMode) → AreSizes (table records.now known) sizes.now → AreRings records.now rings.now → head.now ≡ spec.head names r → slice_get records.now number ≡ Some (definition names r) → Counts (ModeFault names (table records.now known) number r) result }
 {
     match head.fault {
-        Some(fault) => Ok(Some(fault)),
+        Some(fault) => Some(fault),
         None => {
-            let ring = contains_itself(alloc, records, sizes, number)?;
+            let ring = is_ring(rings, number);
             let passing = passing_field(sizes, fields_of(records, number));
             let place = place_of(head.fields.as_slice(), passing);
-            Ok(whole_fault(ring, head.at, place))
+            whole_fault(ring, head.at, place)
         }
     }
 }

@@ -16,7 +16,7 @@ use rt_bricks::Declaration;
 use rt_check_faults::CheckFault;
 use rt_exprs::Level;
 use rt_modes::RecordDef;
-use rt_sizes::{Size, record_sizes};
+use rt_sizes::{Size, mark_rings, record_sizes};
 use rt_words::{List, Memory};
 use std::alloc::Global;
 
@@ -75,10 +75,11 @@ fn judge_records(
 ) -> Result<List<Option<CheckFault>>, Memory>
     ensures { (names : Names) → (known : List Bool) → (rs : List RecordMode) → AreSizes (table records.now known) sizes.now → heads.now ≡ kept.heads names rs → records.now ≡ definitions names rs → IfOk result (AllCount names (table records.now known) rs) }
 {
+    let rings = mark_rings(alloc, records)?;
     let mut unfit = List::new(alloc, heads.len())?;
     for head in heads {
         let number = unfit.len();
-        let fault = judge_record(alloc, records, sizes, number, head)?;
+        let fault = judge_record(records, sizes, rings.as_slice(), number, head);
         unfit.push(fault)?;
     }
     Ok(unfit)

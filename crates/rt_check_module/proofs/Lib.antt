@@ -1,6 +1,6 @@
 mod Walking
 mod Seeing
-pub mod Records
+pub mod Pendings
 pub mod StartLevels
 pub mod Lists
 pub mod Steps

@@ -5,6 +5,8 @@ pub mod Faults
 pub mod Typed
 pub mod Places
 pub mod Defaults
+pub mod Doubts
+pub mod Pending
 pub mod Starts
 pub mod Strings
 pub mod Items

@@ -1,13 +1,13 @@
-//! The start of an item for which nothing is written.
+//! Whether an item for which nothing is written has a start.
 
-ghost use Rattle.std.specs.Prelude.{◌≡◌, true, map, replicate, IfOk};
+ghost use Rattle.std.specs.Prelude.{◌≡◌, ℕ, ◌+◌, ◌<◌, true, false, replicate, length, slice_get, IfOk};
 ghost use Rattle.rt_modes.specs.declared.mode.Mode.{out-Mode};
-ghost use Rattle.rt_modes.specs.declared.mode.Mode.TheOpen.{Mode-F};
 ghost use Rattle.rt_check_module.specs.Defaults as spec;
 ghost use Rattle.rt_check_module.specs.Defaults.{AreDefaults, listed};
+ghost use Rattle.rt_check_module.specs.Doubts.{AreKept, IsSettled, one_if, still};
 
-use rt_modes::{Field, Mode, ModeTable};
-use rt_tree_nodes::DataStart;
+use rt_modes::{Field, Mode, ModeTable, RecordDef};
+use rt_sizes::inner_first;
 use rt_words::{List, Memory};
 use std::alloc::Global;
 
@@ -27,54 +27,104 @@ fn element_has(known: &[bool], mode: &Mode) -> bool
 {
     match mode {
         Mode::Byte | Mode::Int | Mode::Frac | Mode::Label => true,
-        Mode::Record(number) => is_listed(known, *number),
+        Mode::Record(number) => is_listed(known, usize::from(*number)),
         _ => false,
     }
 }
 
-fn is_listed(known: &[bool], number: u16) -> bool
+fn is_listed(known: &[bool], number: usize) -> bool
     ensures { result ≡ listed known.now number }
 {
-    match known.get(usize::from(number)) {
+    match known.get(number) {
         Some(known) => *known,
         None => false,
     }
 }
 
-/// Of each record whether an item of it has a start though nothing is written for it. The time this takes goes by the number
-/// of records and fields and by how deep records hold one another, and not by how often: a record that is too large, or
-/// contains itself, may hold any number of others.
+/// Of each record whether an item of it has a start though nothing is written for it. Each is judged by those that it holds, these first:
+/// the time this takes goes by the number of records and fields. A record that is too large, or contains itself, may hold any number of others.
 pub fn records_with_default(alloc: Global, modes: &ModeTable) -> Result<List<bool>, Memory>
     ensures { IfOk result (AreDefaults modes.now.records) }
 {
-    let mut known = all_records(alloc, modes.records.len())?;
-    for _level in 0..modes.records.len() {
-        let next = next_level(alloc, modes, known.as_slice())?;
-        if next.as_slice() == known.as_slice() {
-            return Ok(known);
-        }
-        known = next;
-    }
-    Ok(known)
+    let records = modes.records.as_slice();
+    let order = inner_first(alloc, records)?;
+    let mut known = all_records(alloc, records.len())?;
+    judge_in_order(records, order.as_slice(), known.as_mut_slice());
+    settle(records, known.as_mut_slice());
+    Ok(List::from_vec(known))
 }
 
 /// That each record has one, where none that it holds is looked at.
-fn all_records(alloc: Global, count: usize) -> Result<List<bool>, Memory>
-    ensures { IfOk result (λ known. known ≡ replicate count true) }
+fn all_records(alloc: Global, count: usize) -> Result<Vec<bool>, Memory>
+    ensures { IfOk result (λ known. known.items ≡ replicate count true) }
 {
-    Ok(List::from_vec(vec![in alloc; true; count]?))
+    Ok(vec![in alloc; true; count]?)
 }
 
-/// The same one level further in.
-fn next_level(alloc: Global, modes: &ModeTable, known: &[bool]) -> Result<List<bool>, Memory>
-    ensures { IfOk result (λ next. next ≡ map (λ d. spec.all_have (listed known.now) d.fields) modes.now.records) }
+/// Judges records in an order.
+fn judge_in_order(records: &[RecordDef], order: &[usize], known: &mut [bool])
+    requires { AreKept records.now known.old }
+    ensures { AreKept records.now known.new }
 {
-    let records = modes.records.as_slice();
-    let mut next = List::new(alloc, records.len())?;
-    for record in records {
-        next.push(all_have(known, record.fields.as_slice()))?;
+    for number in order {
+        if *number < known.len() {
+            judge(records, known, *number);
+        }
     }
-    Ok(next)
+}
+
+/// Judges all records until none is found any more that has no start.
+fn settle(records: &[RecordDef], known: &mut [bool])
+    requires { AreKept records.now known.old }
+    ensures { AreDefaults records.now known.new }
+{
+    let mut is_changed = true;
+    while is_changed {
+        is_changed = judge_all(records, known) > 0;
+    }
+}
+
+/// Judges each record, and gives how many were found that have no start.
+fn judge_all(records: &[RecordDef], known: &mut [bool]) -> usize
+    requires kept { AreKept records.now known.old }
+    ensures kept { AreKept records.now known.new }
+    ensures still { still known.new + result ≡ still known.old }
+    ensures all { result ≡ 0 → (k : ℕ) → k < length known.new → IsSettled records.now known.new k }
+{
+    let mut found = 0;
+    for number in 0..known.len() {
+        if judge(records, known, number) {
+            found += 1;
+        }
+    }
+    found
+}
+
+/// Judges a record by what is known of those that it holds; gives whether it is found that it has no start.
+fn judge(records: &[RecordDef], known: &mut [bool], number: usize) -> bool
+    requires kept { AreKept records.now known.old }
+    requires within { number < length known.old }
+    ensures kept { AreKept records.now known.new }
+    ensures still { still known.new + one_if result ≡ still known.old }
+    ensures same { result ≡ false → known.new ≡ known.old }
+    ensures settled { result ≡ false → IsSettled records.now known.old number }
+{
+    if is_listed(known, number) && !fields_have(records, known, number) {
+        known[number] = false;
+        true
+    } else {
+        false
+    }
+}
+
+/// Whether each field of a record has a start.
+fn fields_have(records: &[RecordDef], known: &[bool], number: usize) -> bool
+    ensures { result ≡ spec.fields_have (listed known.now) (slice_get records.now number) }
+{
+    match records.get(number) {
+        Some(record) => all_have(known, record.fields.as_slice()),
+        None => false,
+    }
 }
 
 fn all_have(known: &[bool], fields: &[Field]) -> bool
@@ -86,92 +136,4 @@ fn all_have(known: &[bool], fields: &[Field]) -> bool
         }
     }
     true
-}
-
-/// The start of an item for which nothing is written.
-pub fn make_default(alloc: Global, modes: &ModeTable, mode: &Mode) -> Result<DataStart, Memory>
-    ensures { IfOk result (λ s. s ≡ spec.default modes.now.records mode.now) }
-{
-    make(alloc, modes, mode, modes.records.len())
-}
-
-#[cycle(make)]
-#[tactic(auto, unfolding(crate::specs::Defaults::record_made))]
-fn make(alloc: Global, modes: &ModeTable, mode: &Mode, levels: usize) -> Result<DataStart, Memory>
-    ensures { IfOk result (λ s. s ≡ spec.default_by (spec.record_made modes.now.records levels) (out-Mode mode.now)) }
-{
-    match mode {
-        Mode::Array(length, of) => make_array(alloc, modes, *length, of.get(), levels),
-        _ => make_element(alloc, modes, mode, levels),
-    }
-}
-
-#[cycle(make)]
-#[tactic(auto, unfolding(crate::specs::Defaults::record_made))]
-fn make_array(
-    alloc: Global,
-    modes: &ModeTable,
-    length: u16,
-    of: &Mode,
-    levels: usize,
-) -> Result<DataStart, Memory>
-    ensures { IfOk result (λ s. s ≡ spec.default_by (spec.record_made modes.now.records levels) (Mode-F.Array length of.now)) }
-{
-    let mut elements = List::new(alloc, usize::from(length))?;
-    for _element in 0..length {
-        elements.push(make_element(alloc, modes, of, levels)?)?;
-    }
-    Ok(DataStart::List(elements))
-}
-
-#[cycle(make)]
-#[tactic(auto, unfolding(crate::specs::Defaults::record_made))]
-fn make_element(
-    alloc: Global,
-    modes: &ModeTable,
-    mode: &Mode,
-    levels: usize,
-) -> Result<DataStart, Memory>
-    ensures { IfOk result (λ s. s ≡ spec.element_made (spec.record_made modes.now.records levels) (out-Mode mode.now)) }
-{
-    match mode {
-        Mode::Record(number) => make_record(alloc, modes, *number, levels),
-        _ => Ok(DataStart::Number(0)),
-    }
-}
-
-#[cycle(make)]
-#[tactic(auto, unfolding(crate::specs::Defaults::record_made))]
-fn make_record(
-    alloc: Global,
-    modes: &ModeTable,
-    number: u16,
-    levels: usize,
-) -> Result<DataStart, Memory>
-    ensures { IfOk result (λ s. s ≡ spec.record_made modes.now.records levels number) }
-{
-    if levels == 0 {
-        return Ok(DataStart::Number(0));
-    }
-    match modes.records.get(usize::from(number)) {
-        None => Ok(DataStart::Number(0)),
-        Some(definition) => make_fields(alloc, modes, definition.fields.as_slice(), levels - 1),
-    }
-}
-
-#[cycle(make)]
-#[tactic(auto, unfolding(crate::specs::Defaults::record_made))]
-fn make_fields(
-    alloc: Global,
-    modes: &ModeTable,
-    fields: &[Field],
-    levels: usize,
-) -> Result<DataStart, Memory>
-    ensures { IfOk result (λ s. s ≡ DataStart.List (map (λ f. spec.default_by (spec.record_made modes.now.records levels) (out-Mode f.mode)) fields.now)) }
-{
-    let mut made = List::new(alloc, fields.len())?;
-    for field in fields {
-        made.push(make(alloc, modes, &field.mode, levels)?)?;
-    }
-    Ok(DataStart::List(made))
 }

@@ -11,10 +11,11 @@ ghost use Rattle.rt_check_module.specs.Items as spec;
 ghost use Rattle.rt_check_module.specs.Starts.{written_in};
 ghost use Rattle.rt_check_declared.specs.Verdicts.{with_faults};
 
-use crate::defaults::{has_default, make_default, records_with_default};
+use crate::defaults::{has_default, records_with_default};
 use crate::judge::{judge, note_unknown};
 use crate::make::make_start;
 use crate::parts::copies;
+use crate::unwritten::make_default;
 use rt_bricks::{DataItem, DataLine, Start};
 use rt_check_declared::{Given, Part, large_item, note};
 use rt_check_faults::CheckFault;

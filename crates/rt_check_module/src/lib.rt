@@ -23,6 +23,7 @@ mod places;
 mod scene;
 mod strings;
 mod supplied;
+mod unwritten;
 
 pub use filling::Filling;
 pub use items::{judge_starts, read_starts};
