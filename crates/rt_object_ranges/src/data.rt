@@ -1,7 +1,7 @@
 //! Whether what an object has of a data brick keeps its ranges.
 
 ghost use Rattle.std.specs.Prelude.{◌↔◌, ℕ, IfOk, IsTrue};
-ghost use Rattle.rt_object.specs.Ranges.{HasDataRanges, HaveOutsideRanges, HaveSize, table_of};
+ghost use Rattle.rt_object.specs.Ranges.{HasDataRanges, HaveBytes, HaveOutsideRanges, HaveSize, table_of};
 ghost use Rattle.rt_object_ranges.specs.Parts.{MayBe};
 ghost use Rattle.rt_sizes.specs.Capped.{AreSizes};
 
@@ -9,7 +9,7 @@ use crate::fields::are_fields;
 use crate::relocations::are_relocations;
 use crate::small::bytes_are_small;
 use rt_modes::Field;
-use rt_object::{DataContent, Known};
+use rt_object::{DataContent, Known, even};
 use rt_sizes::{Size, data_size};
 use rt_words::Memory;
 use std::alloc::Global;
@@ -25,7 +25,7 @@ pub fn is_data_content(
     let fields = content.fields.as_slice();
     let bytes = content.bytes.as_slice();
     bytes_are_small(bytes);
-    if !have_size(known, fields, bytes.len()) {
+    if !have_bytes(known, fields, bytes.len()) {
         return Ok(false);
     }
     if !are_relocations(known, 2, bytes.len(), content.relocations.as_slice()) {
@@ -50,13 +50,13 @@ pub fn are_outside(
     are_fields(alloc, known.records.len(), labels, fields)
 }
 
-/// Whether fields have so many bytes.
-fn have_size(known: &Known<'_>, fields: &[Field], bytes: usize) -> bool
+/// Whether fields take so many bytes.
+fn have_bytes(known: &Known<'_>, fields: &[Field], bytes: usize) -> bool
     requires { AreSizes (table_of known.now.records.now) known.now.sizes.now }
-    ensures { IsTrue result ↔ HaveSize known.now.records.now fields.now bytes }
+    ensures { IsTrue result ↔ HaveBytes known.now.records.now fields.now bytes }
 {
     match data_size(known.sizes, fields) {
-        Some(Size::Bytes(wanted)) => usize::from(wanted) == bytes,
+        Some(Size::Bytes(end)) => even(end) == bytes,
         Some(Size::TooLarge) => false,
         None => false,
     }
