@@ -1,5 +1,5 @@
 -- What the parser of a module answers: the one module, or the unfit item.
-use Rattle.std.proofs.Common.{◌≡◌, ◌<◌, ◌≤◌, ℕ, List, [], ◌∷◌, length, Result, Ok, Err, sym, ap, ◌∙◌, arith}
+use Rattle.std.proofs.Common.{◌≡◌, ◌-◌, ◌<◌, ◌≤◌, ℕ, List, [], ◌∷◌, length, Result, Ok, Err, sym, ap, ◌∙◌, arith}
 use Rattle.rt_pieces.specs.declared.item.Item.{Item}
 use Rattle.rt_grammar.specs.Parsing.{left}
 use Rattle.rt_grammar.proofs.Good.{ok_is}

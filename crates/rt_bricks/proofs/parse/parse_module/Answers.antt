@@ -1,4 +1,4 @@
-use Rattle.std.proofs.Common.{◌≡◌, Ok, Err, ap}
+use Rattle.std.proofs.Common.{◌≡◌, ◌≤◌, length, Ok, Err, ap, arith}
 use Rattle.rt_grammar.specs.Parsing.{left}
 use Rattle.rt_bricks.proofs.Exact.{parsed, parsed_derives, one_module, not_with_rest, not_derived, few, refused, refused_number}
 use Rattle.rt_bricks.proofs.parse.parse_module.Goals as goal
@@ -43,3 +43,13 @@ pub returns-in-Err-Unfit-clause-refused : goal.returns-in-Err-Unfit-clause-refus
 returns-in-Err-Unfit-clause-refused c =
     let p : parsed c.args.items.now ≡ Err c.in-Err-Unfit.left = rw (c.in-Err-Unfit.field-0-is) at c.in-Err-Unfit.ensures in
     (refused_number c.args.items.now _ (ap left p), rw (c.line_left-in-Err-Unfit.ensures) (refused c.args.items.now _ (ap left p)))
+
+pub overflow_sub-result : goal.overflow_sub-result
+overflow_sub-result c =
+    let p : parsed c.args.items.now ≡ Ok (c.in-Ok.field-0-0, c.in-Ok.rest.now) = c.in-Ok.ensures in
+    let within : length c.in-Ok.rest.now ≤ length c.args.items.now = few c.args.items.now _ (ap left p) in omega arith
+
+pub overflow_sub-result-in-Err-Unfit : goal.overflow_sub-result-in-Err-Unfit
+overflow_sub-result-in-Err-Unfit c =
+    let p : parsed c.args.items.now ≡ Err c.in-Err-Unfit.left = rw (c.in-Err-Unfit.field-0-is) at c.in-Err-Unfit.ensures in
+    let within : c.in-Err-Unfit.left ≤ length c.args.items.now = few c.args.items.now _ (ap left p) in omega arith
