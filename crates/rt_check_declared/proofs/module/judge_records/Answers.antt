@@ -9,7 +9,7 @@ loop-head-init c names known rs sizes hs ds = none_so_far names (table c.args.re
 
 pub loop-head-preserved : goal.loop-head-preserved
 loop-head-preserved c names known rs sizes hs ds =
-    let rings : AreRings c.args.records.now c.as_slice.result.now = subst (AreRings c.args.records.now) (sym c.as_slice.ensures) c.in_ok-rings.ensures in
+    let rings : AreRings c.args.records.now c.as_slice.result.now = subst (AreRings c.args.records.now) (sym c.as_slice.ensures.value) c.in_ok-rings.ensures in
     more_so_far names (table c.args.records.now known) rs c.loop-head.unfit c.len-number.result c.loop-head.head-index c.judge_record-fault.result c.push.new.self c.args.records.now c.args.heads.now c.head-item.result c.len-number.ensures (c.loop-head.invariant names known rs sizes hs ds)
     c.in_ok-push.ensures.ok c.head-item.is hs ds (λ r. c.judge_record-fault.ensures names known r sizes rings)
 
